@@ -1,8 +1,8 @@
 -- Decimal numbers: digits read, and numbers written "with no leading zeros".
-use Prim.Native.Nat.{ℕ, zero, suc, _+_, _/_, _%_, min}
+use Prim.Native.Nat.{ℕ, zero, suc, _+_, _/_, _%_, _^_, _≤_, _<_, min}
 use mathlib.Core.List.{List, [], _∷_, _++_}
 use mathlib.Core.Bool.{true, false}
-use lib.ListN.{take}
+use lib.ListN.{length, take}
 use lib.Dec.{ltb}
 use Rattle.octet.specs.Bytes.{bytesOf, runIn, sumOf}
 use Rattle.octet.specs.Places.{valueOf, placesOf}
@@ -24,6 +24,13 @@ digitsTaken most s = min (min most 9) (digitRun s)
 
 unfoldable pub digitsAtFront : ℕ → List ℕ → Digits
 digitsAtFront most s = record { len = digitsTaken most s; value = digits (take (digitsTaken most s) s) }
+
+-- what is read fits: no more digits than there are, than were asked for, than 9, and a number of that many
+pub record Fits (most : ℕ) (s : List ℕ) (d : Digits) : Type 0 where
+  pub inside : d .len ≤ length s
+  pub asked : d .len ≤ most
+  pub short : d .len ≤ 9
+  pub small : d .value < 10 ^ 9
 
 -- ---- written
 

@@ -1,0 +1,4 @@
+pub mod Runs
+pub mod ReadLaws
+pub mod SumLaws
+pub mod Unique
