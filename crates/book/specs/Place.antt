@@ -1,0 +1,83 @@
+-- What is known of a fill among the day's slots: ExecID, order, room, in step. Over a list of slots of any length.
+use Prim.Native.Nat.{ℕ, _+_, _-_}
+use mathlib.Core.List.{List, [], _∷_}
+use mathlib.Core.Option.{Option, none, some}
+use mathlib.Core.Bool.{Bool, true, false, cond, _&&_, _||_, not}
+use lib.ListN.{length}
+use lib.Dec.{ltb, eqb}
+use Rattle.octet.specs.Bytes.{same}
+use Rattle.octet.specs.Maybe.{find, isNone}
+use Rattle.answer.specs.Numbers.{fault}
+use Rattle.fill.specs.Slot.{Slot, isFill, execOf, orderOf, symbolOf, sideOf, sharesOf, priceOf, cumOf, mostFills}
+use Rattle.book.specs.declared.Placed.{Placed}
+use Rattle.book.specs.declared.Placed.the-variants.{Clash, Already, New}
+
+-- ---- predicates on two slots: a is a fill, and b a slot of the book
+
+unfoldable pub sameExec : Slot → Slot → Bool
+sameExec a b = isFill b && same (execOf a) (execOf b)
+
+unfoldable pub sameOrder : Slot → Slot → Bool
+sameOrder a b = isFill b && same (orderOf a) (orderOf b)
+
+abbrev pub sameSymbol : Slot → Slot → Bool
+sameSymbol a b = same (symbolOf a) (symbolOf b)
+
+abbrev pub sameSide : Slot → Slot → Bool
+sameSide a b = eqb (sideOf a) (sideOf b)
+
+-- "same OrderID, symbol, side, LastShares and price"
+unfoldable pub sameContents : Slot → Slot → Bool
+sameContents a b =
+    same (orderOf a) (orderOf b) && sameSymbol a b && sameSide a b && eqb (sharesOf a) (sharesOf b) && eqb (priceOf a) (priceOf b)
+
+-- ---- placement
+
+-- "OrderID known with another symbol: tag 55; another side: tag 54"
+unfoldable pub byOrder : Slot → Option Slot → Placed
+byOrder f none = New
+byOrder f (some k) = cond (sameSymbol f k) (cond (sameSide f k) New (Clash (fault 5 54))) (Clash (fault 5 55))
+
+-- "ExecID (17) known today: same .. is already booked ..; anything different is Reject 5 tag 17"
+unfoldable pub byExec : List Slot → Slot → Option Slot → Placed
+byExec ss f none = byOrder f (find (sameOrder f) ss)
+byExec ss f (some k) = cond (sameContents f k) Already (Clash (fault 5 17))
+
+unfoldable pub place : List Slot → Slot → Placed
+place ss f = byExec ss f (find (sameExec f) ss)
+
+abbrev pub isNew : Placed → Bool
+isNew (Clash f) = false
+isNew Already = false
+isNew New = true
+
+-- ---- room: "512 fills, 128 orders"
+
+abbrev pub mostOrders : ℕ
+mostOrders = 128
+
+unfoldable pub knownOrder : List Slot → Slot → Bool
+knownOrder ss f = not (isNone (find (sameOrder f) ss))
+
+-- an order is known by its fills: how many there are. It is counted as fills are booked
+unfoldable pub ordersWith : List Slot → ℕ → Slot → ℕ
+ordersWith ss orders f = cond (knownOrder ss f) orders (orders + 1)
+
+unfoldable pub hasRoom : List Slot → ℕ → Slot → Bool
+hasRoom ss orders f = ltb (length ss) mostFills && (knownOrder ss f || ltb orders mostOrders)
+
+-- ---- in step
+
+-- the sum of LastShares over the slots of any row predicate
+unfoldable pub sumWhere : (Slot → Bool) → List Slot → ℕ
+sumWhere p [] = 0
+sumWhere p (s ∷ ss) = cond (p s) (sharesOf s) 0 + sumWhere p ss
+
+-- "carried-in (first report's CumQty less LastShares)"
+abbrev pub carried : Slot → Option Slot → ℕ
+carried f none = cumOf f - sharesOf f
+carried f (some k) = cumOf k - sharesOf k
+
+-- "The answer says in step when CumQty is carried-in plus booked sum, this fill included"
+unfoldable pub inStep : List Slot → Slot → Bool
+inStep ss f = eqb (cumOf f) (carried f (find (sameOrder f) ss) + (sumWhere (sameOrder f) ss + sharesOf f))
