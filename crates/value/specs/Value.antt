@@ -7,7 +7,7 @@ use lib.ListN.{length, getD, take, drop}
 use lib.Dec.{leb, eqb}
 use Rattle.octet.specs.Bytes.{bytesOf, between, part, runIn}
 use Rattle.octet.specs.Maybe.{isNone}
-use Rattle.text.specs.Decimal.{digitRun, digits}
+use Rattle.text.specs.Decimal.{digitRun, digits, digitsTaken}
 
 -- A bad form says where: how long the longest beginning is that some well-formed value shares. A value is well formed where that is all of it,
 -- and it is complete
@@ -17,6 +17,10 @@ wellFormed v good complete = cond (eqb good (length v) && complete) none (some g
 -- "Numbers have digits only, 1 to 9, leading zeros read"
 unfoldable pub badNumber : List ℕ → Option ℕ
 badNumber v = wellFormed v (min 9 (digitRun v)) (leb 1 (length v))
+
+-- the number of a value that is one; of any value, the number of its digits at the front
+unfoldable pub numberOr : List ℕ → ℕ
+numberOr v = digits (take (digitsTaken 9 v) v)
 
 -- "all three of bytes 33 to 126"
 unfoldable pub badGraph : List ℕ → Option ℕ
@@ -47,16 +51,25 @@ priceIn v =
 
 -- ---- "UTC time is YYYYMMDD-HH:MM:SS or that and .mmm"
 
--- how far a value is like a pattern, in which a digit stands for any digit
+abbrev pub timePattern : List ℕ
+timePattern = bytesOf "00000000-00:00:00.000"
+
+-- a digit of a pattern stands for any digit, another byte for itself
+abbrev pub likeByte : ℕ → ℕ → Bool
+likeByte t b = cond (between 48 57 t) (between 48 57 b) (eqb t b)
+
+-- how far a value is like a pattern
 abbrev pub likeRun : List ℕ → List ℕ → ℕ
 likeRun [] v = 0
 likeRun (t ∷ ts) [] = 0
-likeRun (t ∷ ts) (b ∷ v) =
-    let more = suc (likeRun ts v) in
-    cond (cond (between 48 57 t) (between 48 57 b) (eqb t b)) more 0
+likeRun (t ∷ ts) (b ∷ v) = let more = suc (likeRun ts v) in cond (likeByte t b) more 0
+
+-- with or without .mmm
+abbrev pub timeLong : ℕ → Bool
+timeLong n = eqb n 17 || eqb n 21
 
 unfoldable pub badTime : List ℕ → Option ℕ
-badTime v = wellFormed v (likeRun (bytesOf "00000000-00:00:00.000") v) (eqb (length v) 17 || eqb (length v) 21)
+badTime v = wellFormed v (likeRun timePattern v) (timeLong (length v))
 
 -- "a Gregorian day of any year"
 unfoldable pub leap : ℕ → Bool

@@ -1,0 +1,4 @@
+pub mod Forms
+pub mod Table
+pub mod Days
+pub mod Like
