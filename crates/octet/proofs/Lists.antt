@@ -4,7 +4,7 @@ use mathlib.Core.Logic.{_⊎_, inl, inr, ⊎-elim}
 use mathlib.Core.List.{List, [], _∷_, _++_, append-assoc, append-nil}
 use mathlib.Core.Bool.{Bool, true, false, cond, _&&_, and-assoc}
 use Prim.Native.Nat.{ℕ, zero, suc, _+_, _-_, _≤_, _<_}
-use native.Mathlib.Nat.{add-sub-cancel-left, zero-sub, sub-zero, le-of-eq, add-zero}
+use native.Mathlib.Nat.{add-sub-cancel-left, zero-sub, sub-zero, min-le-left, le-of-eq, add-zero}
 use native.Mathlib.Numerals.{add-one}
 use native.Mathlib.Omega.{arith}
 use lib.ListN.{length, take, drop, getD, set, length-append, length-take, length-drop, take-append-drop, drop-of-length-le}
@@ -40,6 +40,12 @@ part-all at n s h = take-all n (drop at s) (omega (arith, length-drop at s))
 
 pub length-part : (at n : ℕ) (s : List ℕ) → at + n ≤ length s → length (part at n s) ≡ n
 length-part at n s h = length-take-le n (drop at s) (omega (arith, length-drop at s))
+
+pub part-most : (at n : ℕ) (s : List ℕ) → length (part at n s) ≤ n
+part-most at n s = rw length-take (min-le-left n (length (drop at s)))
+
+pub part-short : {t : List ℕ} (at n : ℕ) (s : List ℕ) → t ≡ part at n s → length t ≤ n
+part-short at n s e = rw e (part-most at n s)
 
 pub part-nil : (at n : ℕ) → part at n [] ≡ []
 part-nil at n = part-past at n [] (omega arith)
@@ -395,6 +401,23 @@ splice-over d at s t e =
     ∙ sym (splice-in d at t h))
     (λ h. ap (λ (l : List ℕ). splice l at t) (splice-out d at s (omega arith)))
     (le-or-lt (at + length t) (length d))
+
+-- what is written in front of what is written
+pub splice-front : (d : List ℕ) (at : ℕ) (s t : List ℕ) → at + length s + length t ≤ length d → splice (splice d (at + length s) t) at s ≡ splice d at (s ++ t)
+splice-front d at s t h =
+    let m = splice d (at + length s) t in
+    let e : at + length (s ++ t) ≡ at + length s + length t = simp length-append (omega arith) in
+    let l : length m ≡ length d = splice-length d (at + length s) t in
+    let rest : drop (at + length s) m ≡ t ++ drop (at + length s + length t) d =
+    ap (drop (at + length s)) (splice-in d (at + length s) t h ∙ append-assoc (take (at + length s) d) t (drop (at + length s + length t) d))
+    ∙ drop-at (take (at + length s) d) (t ++ drop (at + length s + length t) d) (at + length s) (length-take-le (at + length s) d (omega arith)) in
+    splice-in m at s (omega (arith, l))
+    ∙ ap (λ (l : List ℕ). l ++ s ++ drop (at + length s) m) (splice-before d (at + length s) t at (omega arith))
+    ∙ ap (λ (l : List ℕ). take at d ++ s ++ l) rest
+    ∙ sym (append-assoc (take at d ++ s) t (drop (at + length s + length t) d))
+    ∙ ap (λ (l : List ℕ). l ++ drop (at + length s + length t) d) (append-assoc (take at d) s t)
+    ∙ ap (λ (n : ℕ). take at d ++ (s ++ t) ++ drop n d) (sym e)
+    ∙ sym (splice-in d at (s ++ t) (subst (λ (n : ℕ). n ≤ length d) (sym e) h))
 
 -- a store is a write of one byte
 pub set-splice : (d : List ℕ) (i x : ℕ) → set d i x ≡ splice d i (x ∷ [])

@@ -1,7 +1,9 @@
-// Bytes in lent memory: compared, measured, cut into parts and copied.
+// Bytes in lent memory: compared, measured, cut into parts and copied; and numbers in them, high byte first.
 ghost use mathlib.Core.Path.{_≡_};
-ghost use lib.ListN.{getD};
+ghost use Prim.Native.Nat.{_^_, _≤_, _<_};
+ghost use lib.ListN.{length, getD};
 ghost use Rattle.octet.specs.Bytes.{same, agree, part, untilByte, runIn, allIn};
+ghost use Rattle.octet.specs.Places.{high, bigEndian};
 ghost use Rattle.octet.specs.Splice.{splice, fitsAt};
 
 // The byte at place i, 0 past the end.
@@ -107,4 +109,67 @@ pub fn copy_into(dst: &mut [u8], at: usize, src: &[u8]) -> bool
         i += 1;
     }
     true
+}
+
+// The number that at most eight bytes are, the high one first.
+fn number(s: &[u8]) -> u64
+    requires { ⌜ length (now s) ≤ 8 ⌝ }
+    ensures { λ r. ⌜ (r ≡ bigEndian (now (s .entry))) × (r < 256 ^ length (now (s .entry))) ⌝ }
+{
+    let mut v: u64 = 0;
+    let mut i = 0;
+    while i < s.len() {
+        v = v * 256 + s[i] as u64;
+        i += 1;
+    }
+    v
+}
+
+// The number of the four bytes at a place, or of as many as there are.
+pub fn four_at(s: &[u8], at: usize) -> u32
+    ensures { λ r. ⌜ r ≡ bigEndian (part at 4 (now (s .entry))) ⌝ }
+{
+    number(part(s, at, 4)) as u32
+}
+
+// The number of the eight bytes at a place, or of as many as there are.
+pub fn eight_at(s: &[u8], at: usize) -> u64
+    ensures { λ r. ⌜ r ≡ bigEndian (part at 8 (now (s .entry))) ⌝ }
+{
+    number(part(s, at, 8))
+}
+
+// Writes the lowest `width` bytes of n over dst from place `at` on, the high one first. Where they do not fit nothing
+// changes, and the answer is false.
+fn put_number(dst: &mut [u8], at: usize, width: usize, n: u64) -> bool
+    ensures { λ r. ⌜ (r ≡ fitsAt (now (dst .entry)) at (high width n)) × (now (dst .exit) ≡ splice (now (dst .entry)) at (high width n)) ⌝ }
+{
+    if dst.len() < at {
+        return false;
+    }
+    if dst.len() - at < width {
+        return false;
+    }
+    let mut m = n;
+    let mut left = width;
+    while 0 < left {
+        left -= 1;
+        dst[at + left] = (m % 256) as u8;
+        m = m / 256;
+    }
+    true
+}
+
+// Writes n in four bytes.
+pub fn put_four(dst: &mut [u8], at: usize, n: u32) -> bool
+    ensures { λ r. ⌜ (r ≡ fitsAt (now (dst .entry)) at (high 4 n)) × (now (dst .exit) ≡ splice (now (dst .entry)) at (high 4 n)) ⌝ }
+{
+    put_number(dst, at, 4, n as u64)
+}
+
+// Writes n in eight bytes.
+pub fn put_eight(dst: &mut [u8], at: usize, n: u64) -> bool
+    ensures { λ r. ⌜ (r ≡ fitsAt (now (dst .entry)) at (high 8 n)) × (now (dst .exit) ≡ splice (now (dst .entry)) at (high 8 n)) ⌝ }
+{
+    put_number(dst, at, 8, n)
 }
