@@ -45,11 +45,13 @@ judgeWhole at n s =
     cond (ltb (length s) (at + n + trailerWidth)) Short
     (cond (bodyOk (part at n s) && agree (trailerOf (checkSum (take (at + n) s))) (drop (at + n) s)) (Whole (at + n + trailerWidth)) Failed)
 
--- "(the length's value once its `|` is there)"; "BodyLength is 5 to 4,072"
-unfoldable pub judgeValue : ℕ → ℕ → List ℕ → Verdict
-judgeValue at d s =
-    let n = digits (part at d s) in
-    cond (between 5 4072 n) (judgeWhole (at + d + 1) n s) Failed
+-- "BodyLength is 5 to 4,072": the length's value n, where the body begins at `at`
+unfoldable pub judgeLength : ℕ → ℕ → List ℕ → Verdict
+judgeLength at n s = cond (between 5 4072 n) (judgeWhole at n s) Failed
+
+-- "(the length's value once its `|` is there)"
+abbrev pub judgeValue : ℕ → ℕ → List ℕ → Verdict
+judgeValue at d s = judgeLength (at + d + 1) (digits (part at d s)) s
 
 -- "1 to 4 digits, `|`", from `at` on, as far as bytes have come
 unfoldable pub judgeDigits : ℕ → List ℕ → Verdict
