@@ -1,9 +1,11 @@
 -- The paper's numbers and values for phases, refusals and outcomes.
-use Prim.Native.Nat.{ℕ}
+use Prim.Native.Nat.{ℕ, _+_, min}
 use mathlib.Core.Bool.{Bool, _||_}
 use lib.Dec.{eqb}
 use Rattle.answer.specs.declared.Phase.{Phase}
 use Rattle.answer.specs.declared.Phase.the-variants as phase
+use Rattle.answer.specs.declared.Kind.{Kind}
+use Rattle.answer.specs.declared.Kind.the-variants as kind
 use Rattle.answer.specs.declared.Fault.{Fault}
 use Rattle.answer.specs.declared.Refusal.{Refusal}
 use Rattle.answer.specs.declared.Refusal.the-variants as refusal
@@ -35,3 +37,22 @@ refusalNumber refusal.BadId = 9
 -- a fault that is none of form
 abbrev pub fault : ℕ → ℕ → Fault
 fault reason tag = record { reason = reason; tag = tag; at = 0 }
+
+-- a number counted on; it is kept in four bytes and goes no further (refusal 4 and step 1 come long before)
+abbrev pub counted : ℕ → ℕ → ℕ
+counted n k = min (n + k) 4294967295
+
+-- which row of the table a type has, to tell one from another
+abbrev pub kindNumber : Kind → ℕ
+kindNumber kind.Logon = 0
+kindNumber kind.Heartbeat = 1
+kindNumber kind.Test = 2
+kindNumber kind.Resend = 3
+kindNumber kind.Reset = 4
+kindNumber kind.Logout = 5
+kindNumber kind.Report = 6
+kindNumber kind.Other = 7
+kindNumber kind.Unlisted = 8
+
+abbrev pub isKind : Kind → Kind → Bool
+isKind a b = eqb (kindNumber a) (kindNumber b)
