@@ -1,4 +1,6 @@
-pub mod Runs
 pub mod ReadLaws
 pub mod SumLaws
+pub mod Decimals
+pub mod Puts
+pub mod Layouts
 pub mod Unique

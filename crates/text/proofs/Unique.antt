@@ -1,12 +1,39 @@
--- No second answer satisfies a promise.
+-- No second answer satisfies a promise, and no second lent bytes: each promise is an equation with its definition.
+--     read-digits-once, byte-sum-once, new-once, size-once, sum-once     what is read
+--     puts-once     every method that puts more to a text (put, part, decimal, fixed, price, field, number, letter, field_if, number_if, letter_if, onto)
+--     place-once     where a text is placed, the bytes and the place after it
 use mathlib.Core.Path.{_≡_, sym, _∙_}
+use mathlib.Core.Bool.{cond}
 use mathlib.Core.List.{List}
-use Prim.Native.Nat.{ℕ}
+use Prim.Native.Nat.{ℕ, _+_}
+use lib.ListN.{length}
+use Rattle.octet.specs.Splice.{splice, fitsAt}
 use Rattle.text.specs.Decimal.{digitsAtFront, checkSum}
+use Rattle.text.specs.Writing.{empty, puts, held}
 use Rattle.text.specs.declared.Digits.{Digits}
+use Rattle.text.specs.declared.Text.{Text}
 
 pub read-digits-once : (most : ℕ) (s : List ℕ) (p q : Digits) → p ≡ digitsAtFront most s → q ≡ digitsAtFront most s → p ≡ q
 read-digits-once most s p q h g = h ∙ sym g
 
 pub byte-sum-once : (s : List ℕ) (p q : ℕ) → p ≡ checkSum s → q ≡ checkSum s → p ≡ q
 byte-sum-once s p q h g = h ∙ sym g
+
+pub new-once : (p q : Text) → p ≡ empty → q ≡ empty → p ≡ q
+new-once p q h g = h ∙ sym g
+
+pub puts-once : (t : Text) (more : List ℕ) (p q : Text) → p ≡ puts t more → q ≡ puts t more → p ≡ q
+puts-once t more p q h g = h ∙ sym g
+
+pub size-once : (t : Text) (p q : ℕ) → p ≡ length (held t) → q ≡ length (held t) → p ≡ q
+size-once t p q h g = h ∙ sym g
+
+pub sum-once : (t : Text) (p q : ℕ) → p ≡ checkSum (held t) → q ≡ checkSum (held t) → p ≡ q
+sum-once t p q h g = h ∙ sym g
+
+-- what `place` promises of the bytes that it leaves and of its answer
+abbrev Placed : Text → List ℕ → ℕ → List ℕ → ℕ → Type 0
+Placed t dst at left r = (left ≡ splice dst at (held t)) × (r ≡ cond (fitsAt dst at (held t)) (at + length (held t)) at)
+
+pub place-once : (t : Text) (dst : List ℕ) (at : ℕ) (left left′ : List ℕ) (r r′ : ℕ) → Placed t dst at left r → Placed t dst at left′ r′ → (left ≡ left′) × (r ≡ r′)
+place-once t dst at left left′ r r′ h g = (h .0 ∙ sym (g .0), h .1 ∙ sym (g .1))

@@ -1,7 +1,14 @@
 // Texts: decimal numbers read and written, a text that is being written, fields, and the byte sum.
 ghost use mathlib.Core.Path.{_≡_};
-ghost use Prim.Native.Nat.{min};
-ghost use Rattle.text.specs.Decimal.{digitsAtFront, Fits, checkSum};
+ghost use mathlib.Core.Bool.{cond};
+ghost use mathlib.Core.List.{[], _∷_};
+ghost use Prim.Native.Nat.{_+_, _/_, _%_, _^_, _≤_, min};
+ghost use lib.ListN.{length, take};
+ghost use Rattle.octet.specs.Splice.{splice, fitsAt};
+ghost use Rattle.text.specs.Decimal.{digitsAtFront, Fits, decimal, fixed, priceText, checkSum};
+ghost use Rattle.text.specs.Fields.{_is_, fieldBytes, layout, said};
+ghost use Rattle.text.specs.Writing.{room, textWith, empty, puts, held};
+use octet::copy_into;
 
 // How many digits there are at the front, and the number that they write.
 pub struct Digits {
@@ -16,6 +23,152 @@ pub const ROOM: usize = 512;
 pub struct Text {
     pub bytes: [u8; ROOM],
     pub len: usize,
+}
+
+// The byte that ends a field, written `|`.
+const MARK: u8 = 1;
+
+impl Text {
+    pub fn new() -> Text
+        ensures { λ r. ⌜ r ≡ empty ⌝ }
+    {
+        Text {
+            bytes: [0u8; ROOM],
+            len: 0,
+        }
+    }
+
+    // One byte more.
+    pub fn put(self, x: u8) -> Text
+        ensures { λ r. ⌜ r ≡ puts self (x ∷ []) ⌝ }
+    {
+        let mut b = self.bytes;
+        let len = put_at(&mut b, self.len, x);
+        Text { bytes: b, len }
+    }
+
+    // The first n bytes of s more, or all of s where it has fewer.
+    pub fn part(self, s: &[u8], n: usize) -> Text
+        ensures { λ r. ⌜ r ≡ puts self (take n (now (s .entry))) ⌝ }
+    {
+        let mut b = self.bytes;
+        let len = part_at(&mut b, self.len, s, n);
+        Text { bytes: b, len }
+    }
+
+    // A number more, "no leading zeros".
+    pub fn decimal(self, n: u64) -> Text
+        ensures { λ r. ⌜ r ≡ puts self (decimal n) ⌝ }
+    {
+        let mut b = self.bytes;
+        let len = decimal_at(&mut b, self.len, n);
+        Text { bytes: b, len }
+    }
+
+    // The lowest `width` digits of a number more, leading zeros among them.
+    pub fn fixed(self, width: usize, n: u64) -> Text
+        ensures { λ r. ⌜ r ≡ puts self (fixed width n) ⌝ }
+    {
+        let mut b = self.bytes;
+        let len = fixed_at(&mut b, self.len, width, n);
+        Text { bytes: b, len }
+    }
+
+    // A "price with four decimals" more, of ten-thousandths.
+    pub fn price(self, p: u64) -> Text
+        ensures { λ r. ⌜ r ≡ puts self (priceText p) ⌝ }
+    {
+        let mut b = self.bytes;
+        let len = price_at(&mut b, self.len, p);
+        Text { bytes: b, len }
+    }
+
+    // tag=value|, where the value is the first n bytes of v.
+    pub fn field(self, tag: u32, v: &[u8], n: usize) -> Text
+        ensures { λ r. ⌜ r ≡ puts self (fieldBytes (tag is take n (now (v .entry)))) ⌝ }
+    {
+        let mut b = self.bytes;
+        let len = field_at(&mut b, self.len, tag, v, n);
+        Text { bytes: b, len }
+    }
+
+    // tag=n|
+    pub fn number(self, tag: u32, n: u32) -> Text
+        ensures { λ r. ⌜ r ≡ puts self (fieldBytes (tag is decimal n)) ⌝ }
+    {
+        let mut b = self.bytes;
+        let len = number_at(&mut b, self.len, tag, n);
+        Text { bytes: b, len }
+    }
+
+    // tag=x|
+    pub fn letter(self, tag: u32, x: u8) -> Text
+        ensures { λ r. ⌜ r ≡ puts self (fieldBytes (tag is x ∷ [])) ⌝ }
+    {
+        let mut b = self.bytes;
+        let len = letter_at(&mut b, self.len, tag, x);
+        Text { bytes: b, len }
+    }
+
+    // tag=value| where said
+    pub fn field_if(self, ask: bool, tag: u32, v: &[u8], n: usize) -> Text
+        ensures { λ r. ⌜ r ≡ puts self (layout (said ask ((tag is take n (now (v .entry))) ∷ []))) ⌝ }
+    {
+        if ask { self.field(tag, v, n) } else { self }
+    }
+
+    // tag=n| where said
+    pub fn number_if(self, ask: bool, tag: u32, n: u32) -> Text
+        ensures { λ r. ⌜ r ≡ puts self (layout (said ask ((tag is decimal n) ∷ []))) ⌝ }
+    {
+        if ask { self.number(tag, n) } else { self }
+    }
+
+    // tag=x| where said
+    pub fn letter_if(self, ask: bool, tag: u32, x: u8) -> Text
+        ensures { λ r. ⌜ r ≡ puts self (layout (said ask ((tag is x ∷ []) ∷ []))) ⌝ }
+    {
+        if ask { self.letter(tag, x) } else { self }
+    }
+
+    // How many bytes it holds.
+    pub fn size(self) -> usize
+        ensures { λ r. ⌜ r ≡ length (held self) ⌝ }
+        ensures { λ r. ⌜ r ≤ room ⌝ }
+    {
+        fewer(self.len, ROOM)
+    }
+
+    // All that it holds, put to another.
+    pub fn onto(self, t: Text) -> Text
+        ensures { λ r. ⌜ r ≡ puts t (held self) ⌝ }
+    {
+        let n = self.size();
+        let b = self.bytes;
+        t.part(&b, n)
+    }
+
+    // The sum of the bytes that it holds, modulo 256.
+    pub fn sum(self) -> u8
+        ensures { λ r. ⌜ r ≡ checkSum (held self) ⌝ }
+    {
+        let n = self.size();
+        let b = self.bytes;
+        byte_sum(&b[..n])
+    }
+
+    // Writes what it holds at a place of dst, and says where that ends; where it does not fit, nothing.
+    pub fn place(self, dst: &mut [u8], at: usize) -> usize
+        ensures { λ r. ⌜ now (dst .exit) ≡ splice (now (dst .entry)) at (held self) ⌝ }
+        ensures { λ r. ⌜ r ≡ cond (fitsAt (now (dst .entry)) at (held self)) (at + length (held self)) at ⌝ }
+    {
+        let n = self.size();
+        let b = self.bytes;
+        if copy_into(dst, at, &b[..n]) {
+            return at + n;
+        }
+        at
+    }
 }
 
 // A u32 holds any number of so many digits.
@@ -63,4 +216,102 @@ pub fn byte_sum(s: &[u8]) -> u8
         i += 1;
     }
     total
+}
+
+// One byte more, in bytes that are lent; the length with it.
+fn put_at(b: &mut [u8; ROOM], at: usize, x: u8) -> usize
+    ensures { λ r. ⌜ textWith (now (b .exit)) r ≡ puts (textWith (now (b .entry)) at) (x ∷ []) ⌝ }
+{
+    if at < ROOM {
+        b[at] = x;
+        return at + 1;
+    }
+    at
+}
+
+fn part_at(b: &mut [u8; ROOM], at: usize, s: &[u8], n: usize) -> usize
+    ensures { λ r. ⌜ textWith (now (b .exit)) r ≡ puts (textWith (now (b .entry)) at) (take n (now (s .entry))) ⌝ }
+{
+    let mut p = at;
+    let mut i = 0;
+    while i < s.len() {
+        if n <= i {
+            return p;
+        }
+        p = put_at(b, p, s[i]);
+        i += 1;
+    }
+    p
+}
+
+// The last digit is n's remainder by ten, those before it are n / 10's.
+fn decimal_at(b: &mut [u8; ROOM], at: usize, n: u64) -> usize
+    ensures { λ r. ⌜ textWith (now (b .exit)) r ≡ puts (textWith (now (b .entry)) at) (decimal n) ⌝ }
+{
+    let digit = b'0' + (n % 10) as u8;
+    if n < 10 {
+        return put_at(b, at, digit);
+    }
+    let p = decimal_at(b, at, n / 10);
+    put_at(b, p, digit)
+}
+
+// The digit of n that has k digits after it.
+fn digit_of(n: u64, k: usize) -> u8
+    ensures { λ r. ⌜ r ≡ 48 + n / 10 ^ k % 10 ⌝ }
+{
+    let mut rest = n;
+    let mut i = 0;
+    while i < k {
+        rest = rest / 10;
+        i += 1;
+    }
+    b'0' + (rest % 10) as u8
+}
+
+fn fixed_at(b: &mut [u8; ROOM], at: usize, width: usize, n: u64) -> usize
+    ensures { λ r. ⌜ textWith (now (b .exit)) r ≡ puts (textWith (now (b .entry)) at) (fixed width n) ⌝ }
+{
+    let mut p = at;
+    let mut left = width;
+    while 0 < left {
+        left -= 1;
+        p = put_at(b, p, digit_of(n, left));
+    }
+    p
+}
+
+fn price_at(b: &mut [u8; ROOM], at: usize, p: u64) -> usize
+    ensures { λ r. ⌜ textWith (now (b .exit)) r ≡ puts (textWith (now (b .entry)) at) (priceText p) ⌝ }
+{
+    let point = decimal_at(b, at, p / 10000);
+    let after = put_at(b, point, b'.');
+    fixed_at(b, after, 4, p)
+}
+
+fn field_at(b: &mut [u8; ROOM], at: usize, tag: u32, v: &[u8], n: usize) -> usize
+    ensures { λ r. ⌜ textWith (now (b .exit)) r ≡ puts (textWith (now (b .entry)) at) (fieldBytes (tag is take n (now (v .entry)))) ⌝ }
+{
+    let equals = decimal_at(b, at, tag as u64);
+    let value = put_at(b, equals, b'=');
+    let mark = part_at(b, value, v, n);
+    put_at(b, mark, MARK)
+}
+
+fn number_at(b: &mut [u8; ROOM], at: usize, tag: u32, n: u32) -> usize
+    ensures { λ r. ⌜ textWith (now (b .exit)) r ≡ puts (textWith (now (b .entry)) at) (fieldBytes (tag is decimal n)) ⌝ }
+{
+    let equals = decimal_at(b, at, tag as u64);
+    let value = put_at(b, equals, b'=');
+    let mark = decimal_at(b, value, n as u64);
+    put_at(b, mark, MARK)
+}
+
+fn letter_at(b: &mut [u8; ROOM], at: usize, tag: u32, x: u8) -> usize
+    ensures { λ r. ⌜ textWith (now (b .exit)) r ≡ puts (textWith (now (b .entry)) at) (fieldBytes (tag is x ∷ [])) ⌝ }
+{
+    let equals = decimal_at(b, at, tag as u64);
+    let value = put_at(b, equals, b'=');
+    let mark = put_at(b, value, x);
+    put_at(b, mark, MARK)
 }

@@ -12,7 +12,9 @@ use borrow.Author.Needs.{needs}
 use Rattle.octet.specs.Bytes.{between}
 use Rattle.text.specs.Decimal.{digitsAtFront, Fits}
 use Rattle.text.specs.declared.Digits.{Digits}
-use Rattle.text.proofs.ReadLaws.{soFar, start, full, past, stop, more, grows, below, is-digit, not-below, not-above}
+use Rattle.text.proofs.ReadLaws.{soFar, start, full, past, stop, more}
+use Rattle.octet.proofs.Lists.{is-between, is-below, is-above}
+use Rattle.octet.proofs.Places.{more-fits, below-pow}
 use Rattle.text.proofs.read_digits.Statement.{statement}
 use Rattle.text.proofs.read_digits.Tie as tie
 
@@ -36,7 +38,7 @@ answer : (p : tie.At-loop Inv-loop μ-loop)
     × Fits (p .before .before .before .args .most) (given p) (read p)
 answer p h =
     let l : p .loop .len ≤ 9 = omega (arith, p .before .fewer .ensures) in
-    (sym (p .loop .inv .3 ∙ h), record { inside = p .loop .inv .1; asked = omega (arith, p .before .fewer .ensures); short = l; small = below 9 (p .loop .len) (p .loop .value) (p .loop .inv .2) l })
+    (sym (p .loop .inv .3 ∙ h), record { inside = p .loop .inv .1; asked = omega (arith, p .before .fewer .ensures); short = l; small = below-pow 10 9 (lit< tt) (p .loop .inv .2) l })
 
 fewer-requires : tie.Need-fewer-requires Inv-loop μ-loop
 fewer-requires c κs = search needs
@@ -53,15 +55,15 @@ shared-slice-read-b c = search needs
 returns-2 : tie.Need-returns-2 Inv-loop μ-loop
 returns-2 c =
     let p = c .before .before .before .before in
-    answer p (stop _ _ _ (p .loop .len) (given p) (search needs) (not-below _ (c .if2 .taken)))
+    answer p (stop _ _ _ (p .loop .len) (given p) (search needs) (is-below 48 57 _ (c .if2 .taken)))
 
 returns-3 : tie.Need-returns-3 Inv-loop μ-loop
 returns-3 c =
     let p = c .before .before .before .before .before in
-    answer p (stop _ _ _ (p .loop .len) (given p) (search needs) (not-above _ (c .before .if2 .left) (c .if3 .taken)))
+    answer p (stop _ _ _ (p .loop .len) (given p) (search needs) (is-above 48 57 _ (c .if3 .taken)))
 
 small : (p : tie.At-loop Inv-loop μ-loop) → p .loop .len < p .before .fewer .result → p .loop .value < 10 ^ 8
-small p h = below 8 (p .loop .len) (p .loop .value) (p .loop .inv .2) (omega (arith, p .before .fewer .ensures))
+small p h = below-pow 10 8 (lit< tt) (p .loop .inv .2) (omega (arith, p .before .fewer .ensures))
 
 mul-value : tie.Need-mul-value Inv-loop μ-loop
 mul-value c = omega (arith, small (c .before .before .before .before .before) (search needs))
@@ -85,8 +87,8 @@ loop-again c =
     let b = getD s (p .loop .len) 0 in (
       omega arith,
       omega arith,
-      grows _ _ (b - 48) (p .loop .inv .2) (omega arith),
-      p .loop .inv .3 ∙ more _ _ _ _ s (omega arith) (omega arith) (is-digit b (c .before .if2 .left) (c .if3 .left)),
+      more-fits 10 _ {d = b - 48} (p .loop .inv .2) (omega arith),
+      p .loop .inv .3 ∙ more _ _ _ _ s (omega arith) (omega arith) (is-between 48 57 b (c .before .if2 .left) (c .if3 .left)),
     )
 
 returns-4 : tie.Need-returns-4 Inv-loop μ-loop

@@ -1,0 +1,70 @@
+-- Bytes put to a text.
+--     puts-puts     a run of puts is one put
+--     held-puts     what an empty text holds once bytes are put to it: those bytes, cut to room
+--     held-short    and where they are few, just those bytes
+use mathlib.Core.Path.{_≡_, refl, sym, ap, _∙_}
+use mathlib.Core.Bool.{Bool, true, false, cond}
+use mathlib.Core.List.{List, [], _∷_, _++_, append-nil, append-assoc}
+use Prim.Native.Nat.{ℕ, zero, suc, _+_, _≤_, _<_, min}
+use native.Mathlib.Nat.{min-eq-left, min-eq-right}
+use mathlib.Core.Logic.{⊎-elim}
+use Rattle.octet.proofs.Cases.{le-or-lt}
+use native.Mathlib.Numerals.{add-one}
+use native.Mathlib.Omega.{arith}
+use borrow.Author.Tests.{ltb-true, ltb-false}
+use lib.Dec.{ltb}
+use lib.ListN.{length, take, set, length-append, length-take, length-set, length-replicate}
+use lib.Seq.{take-all, take-length, take-suc-set, take-append-le, length-take-le}
+use Rattle.text.specs.Writing.{room, textWith, put1, puts, held, empty}
+use Rattle.text.specs.declared.Text.{Text}
+
+pub puts-puts : (t : Text) (xs ys : List ℕ) → puts (puts t xs) ys ≡ puts t (xs ++ ys)
+unfolding puts
+puts-puts t [] ys = refl
+puts-puts t (x ∷ xs) ys = puts-puts (put1 t x) xs ys
+
+-- one byte: it is there where there is room, and the length of the array stays
+one : (t : Text) (b : ℕ) → length (t .bytes) ≡ room → (length (put1 t b .bytes) ≡ room) × (held (put1 t b) ≡ take room (held t ++ b ∷ []))
+unfolding held
+one t b e = by (ltb (t .len) room) refl where
+  by : (w : Bool) → ltb (t .len) room ≡ w → (length (cond w (record { bytes = set (t .bytes) (t .len) b; len = t .len + 1 }) t .bytes) ≡ room)
+      × (held (cond w (record { bytes = set (t .bytes) (t .len) b; len = t .len + 1 }) t) ≡ take room (take (t .len) (t .bytes) ++ b ∷ []))
+  by true h =
+      let l : t .len < room = ltb-true _ _ h in
+      let s : length (take (t .len) (t .bytes) ++ b ∷ []) ≤ room = simp (length-append, length-take-le (t .len) (t .bytes) (omega arith)) (omega arith) in
+      (simp length-set e, rw (add-one, take-suc-set (t .bytes) (t .len) b (omega arith)) (sym (take-all room _ s)))
+  by false h =
+      let l : room ≤ t .len = ltb-false _ _ h in
+      let s : take (t .len) (t .bytes) ≡ t .bytes = take-all (t .len) (t .bytes) (omega arith) in
+      (e, rw s (sym (take-append-le room (t .bytes) (b ∷ []) (omega arith) ∙ take-all room (t .bytes) (omega arith))))
+
+take-onto : (n : ℕ) (xs ys : List ℕ) → take n (take n xs ++ ys) ≡ take n (xs ++ ys)
+take-onto zero xs ys = refl
+take-onto (suc n) [] ys = refl
+take-onto (suc n) (x ∷ xs) ys = ap (λ (l : List ℕ). x ∷ l) (take-onto n xs ys)
+
+held-all : (t : Text) (xs : List ℕ) → length (t .bytes) ≡ room → held (puts t xs) ≡ take room (held t ++ xs)
+unfolding puts held
+held-all t [] e = rw append-nil (sym (take-all room _ (simp length-take (omega arith))))
+held-all t (x ∷ xs) e =
+    let o = one t x e in
+    held-all (put1 t x) xs (o .0) ∙ rw (o .1, take-onto, append-assoc)
+
+pub held-puts : (xs : List ℕ) → held (puts empty xs) ≡ take room xs
+unfolding empty held
+held-puts xs = held-all empty xs (length-replicate {A = ℕ} room 0)
+
+pub held-short : (xs : List ℕ) → length xs ≤ room → held (puts empty xs) ≡ xs
+held-short xs h = held-puts xs ∙ take-all room xs h
+
+-- ---- what a text holds is a front of its bytes
+pub held-length : (t : Text) → length (held t) ≡ min (t .len) (length (t .bytes))
+unfolding held
+held-length t = length-take (t .len) (t .bytes)
+
+take-most : (n : ℕ) (l : List ℕ) → take (min n (length l)) l ≡ take n l
+take-most n l = ⊎-elim (λ h. ap (λ (k : ℕ). take k l) (min-eq-left h)) (λ h. let e : length l ≤ n = omega arith in ap (λ (k : ℕ). take k l) (min-eq-right e) ∙ take-length l ∙ sym (take-all n l e)) (le-or-lt n (length l))
+
+pub held-front : (t : Text) (n : ℕ) → n ≡ length (held t) → take n (t .bytes) ≡ held t
+unfolding held
+held-front t n h = ap (λ (k : ℕ). take k (t .bytes)) (h ∙ held-length t) ∙ take-most (t .len) (t .bytes)

@@ -1,0 +1,15 @@
+use mathlib.Core.List.{append-nil}
+use Rattle.text.specs.Writing.{puts}
+use borrow.Author.Needs.{needs}
+use Rattle.text.proofs.Text.letter_if.Statement.{statement}
+use Rattle.text.proofs.Text.letter_if.Tie as tie
+
+returns : tie.Need-returns
+returns c = rw (c .before .if1 .taken, append-nil) (c .letter .ensures)
+
+returns-2 : tie.Need-returns-2
+unfolding puts
+returns-2 c = rw (c .if1 .left)
+
+pub letter-if-spec : {M : Type 1} → statement M
+letter-if-spec = tie.close (tie.spec (λ c κs. search needs) returns returns-2)

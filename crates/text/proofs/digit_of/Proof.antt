@@ -1,0 +1,44 @@
+-- `text::digit_of` meets its contract. The invariant: the rest is n without its last i digits.
+-- Assumes nothing.
+use mathlib.Core.Path.{_≡_, sym}
+use Prim.Native.Nat.{ℕ, _≤_, _-_, _/_, _^_}
+use native.Mathlib.Nat.{div-one, pow-suc, div-div-eq-div-mul}
+use native.Mathlib.Numerals.{add-one}
+use native.Mathlib.Omega.{arith}
+use borrow.Author.Needs.{needs}
+use Rattle.text.proofs.digit_of.Statement.{statement}
+use Rattle.text.proofs.digit_of.Tie as tie
+
+abbrev Inv-loop : tie.InvT-loop
+Inv-loop n k rest₀ i₀ rest i = (i ≤ k) × (rest ≡ n / 10 ^ i)
+
+abbrev μ-loop : tie.MeasureT-loop
+μ-loop n k rest₀ i₀ rest i = k - i
+
+loop-holds : tie.Need-loop-holds Inv-loop μ-loop
+loop-holds c = (omega arith, sym (div-one _))
+
+add-i : tie.Need-add-i Inv-loop μ-loop
+add-i c = omega arith
+
+loop-less : tie.Need-loop-less Inv-loop μ-loop
+loop-less c = omega arith
+
+loop-again : tie.Need-loop-again Inv-loop μ-loop
+loop-again c = (omega arith, rw (c .before .loop .inv .1, add-one, pow-suc) (div-div-eq-div-mul _ _ _))
+
+cast-result : tie.Need-cast-result Inv-loop μ-loop
+cast-result c = omega arith
+
+add-result : tie.Need-add-result Inv-loop μ-loop
+add-result c = omega arith
+
+returns : tie.Need-returns Inv-loop μ-loop
+returns c =
+    let k : c .before .loop .i ≡ c .before .before .args .k = omega arith in
+    rw (c .before .loop .inv .1, k)
+
+pub digit-of-spec : {M : Type 1} → statement M
+digit-of-spec =
+    tie.close
+    (tie.spec Inv-loop μ-loop loop-holds add-i loop-less loop-again cast-result add-result returns)

@@ -1,0 +1,70 @@
+-- The invariant: the text is the first one with the first i bytes of s.
+use mathlib.Core.Path.{_≡_, refl, sym, ap, _∙_}
+use mathlib.Core.List.{List, [], _∷_, _++_, append-assoc}
+use Prim.Native.Nat.{ℕ, _≤_, _<_, _-_, _+_}
+use native.Mathlib.Numerals.{add-one}
+use lib.ListN.{length, take}
+use lib.Seq.{take-suc, take-all}
+use borrow.Author.Needs.{needs}
+use native.Mathlib.Omega.{arith}
+use Rattle.text.specs.Writing.{puts, textWith}
+use Rattle.text.proofs.Puts.{puts-puts}
+use Rattle.text.proofs.part_at.Statement.{statement}
+use Rattle.text.proofs.part_at.Tie as tie
+
+abbrev Inv-loop : tie.InvT-loop
+Inv-loop b₀ at s n p₀ i₀ b p i = (i ≤ length s) × (i ≤ n) × (textWith b p ≡ puts (textWith b₀ at) (take i s))
+
+abbrev μ-loop : tie.MeasureT-loop
+μ-loop b₀ at s n p₀ i₀ b p i = length s - i
+
+loop-holds : tie.Need-loop-holds Inv-loop μ-loop
+unfolding puts
+loop-holds c = (omega arith, omega arith, refl)
+
+returns : tie.Need-returns Inv-loop μ-loop
+returns c =
+    let l = c .before .before .loop in
+    let e : l .i ≡ c .before .before .before .before .args .n = omega arith in
+    rw (← e) (l .inv .2)
+
+shared-slice-read-put-at : tie.Need-shared-slice-read-put-at Inv-loop μ-loop
+shared-slice-read-put-at c = search needs
+
+put-at-requires : tie.Need-put-at-requires Inv-loop μ-loop
+put-at-requires c κs = search needs
+
+add-i : tie.Need-add-i Inv-loop μ-loop
+add-i c = omega arith
+
+loop-less : tie.Need-loop-less Inv-loop μ-loop
+loop-less c = omega arith
+
+loop-again : tie.Need-loop-again Inv-loop μ-loop
+loop-again c =
+    let b = c .before .before .before .before .before in
+    let s = b .before .before .args .s .now in
+    let h : b .loop .i < length s = omega arith in
+    (omega arith, omega arith, rw (add-one, take-suc s (b .loop .i) 0 h) (c .put-at .ensures ∙ rw (b .loop .inv .2, puts-puts)))
+
+returns-2 : tie.Need-returns-2 Inv-loop μ-loop
+returns-2 c =
+    let a = c .before .before .before .args in
+    let l = c .before .loop in
+    let e : take (l .i) (a .s .now) ≡ take (a .n) (a .s .now) = take-all _ _ (c .loop-test .left) ∙ sym (take-all (a .n) (a .s .now) (omega arith)) in
+    rw (← e) (l .inv .2)
+
+pub part-at-spec : {M : Type 1} → statement M
+part-at-spec =
+    tie.close
+    (tie.spec
+    Inv-loop
+    μ-loop
+    loop-holds
+    returns
+    shared-slice-read-put-at
+    put-at-requires
+    add-i
+    loop-less
+    loop-again
+    returns-2)
