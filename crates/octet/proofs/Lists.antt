@@ -170,7 +170,7 @@ agree-begins (x ∷ o) (y ∷ s) h e =
 -- a walk over both, from places i and j on
 module _ (o s : List ℕ) (i j : ℕ) where
   pub agree-next : i < length o → j < length s → getD o i 0 ≡ getD s j 0 → agree (drop i o) (drop j s) ≡ agree (drop (i + 1) o) (drop (j + 1) s)
-  agree-next hi hj e = rw (add-one, add-one, drop-cons o i 0 hi, drop-cons s j 0 hj, eq-eqb _ _ e)
+  agree-next hi hj e = rw (drop-step o i hi, drop-step s j hj, eq-eqb _ _ e)
 
   pub agree-differ : i < length o → j < length s → (getD o i 0 ≡ getD s j 0 → ⊥) → agree (drop i o) (drop j s) ≡ false
   agree-differ hi hj e = rw (drop-cons o i 0 hi, drop-cons s j 0 hj, ne-eqb _ _ e)

@@ -1,10 +1,13 @@
-// Bytes in lent memory: compared, measured, cut into parts and copied; and numbers in them, high byte first.
+// Bytes in lent memory: compared, measured, cut into parts and copied; and in them numbers, high byte first,
+// and texts with a length byte and zero padding.
 ghost use mathlib.Core.Path.{_≡_};
-ghost use Prim.Native.Nat.{_^_, _≤_, _<_};
-ghost use lib.ListN.{length, getD};
+ghost use Prim.Native.Nat.{_+_, _-_, _^_, _≤_, _<_};
+ghost use mathlib.Core.Bool.{cond, _&&_};
+ghost use lib.ListN.{length, getD, replicate};
 ghost use Rattle.octet.specs.Bytes.{same, agree, part, untilByte, runIn, allIn};
 ghost use Rattle.octet.specs.Places.{high, bigEndian};
 ghost use Rattle.octet.specs.Splice.{splice, fitsAt};
+ghost use Rattle.octet.specs.Padded.{fitsWidth, padded, textOf, paddedOk};
 
 // The byte at place i, 0 past the end.
 pub fn byte_at(s: &[u8], i: usize) -> u8
@@ -172,4 +175,71 @@ pub fn put_eight(dst: &mut [u8], at: usize, n: u64) -> bool
     ensures { λ r. ⌜ (r ≡ fitsAt (now (dst .entry)) at (high 8 n)) × (now (dst .exit) ≡ splice (now (dst .entry)) at (high 8 n)) ⌝ }
 {
     put_number(dst, at, 8, n)
+}
+
+// Writes n zeros over dst from place `at` on.
+fn put_zeros(dst: &mut [u8], at: usize, n: usize)
+    requires { ⌜ at + n ≤ length (now dst) ⌝ }
+    ensures { λ r. ⌜ now (dst .exit) ≡ splice (now (dst .entry)) at (replicate n 0) ⌝ }
+{
+    let mut i = 0;
+    while i < n {
+        dst[at + i] = 0;
+        i += 1;
+    }
+}
+
+// Writes the text t over dst from place `at` on, as a field of that width: a length byte, the text, zero padding. Where
+// the field does not hold the text, or dst not the field, nothing changes, and the answer is false.
+pub fn put_padded(dst: &mut [u8], at: usize, width: usize, t: &[u8]) -> bool
+    ensures { λ r. ⌜ (r ≡ fitsWidth width (now (t .entry)) && fitsAt (now (dst .entry)) at (padded width (now (t .entry)))) × (now (dst .exit) ≡ cond (fitsWidth width (now (t .entry))) (splice (now (dst .entry)) at (padded width (now (t .entry)))) (now (dst .entry))) ⌝ }
+{
+    if width <= t.len() {
+        return false;
+    }
+    if 255 < t.len() {
+        return false;
+    }
+    if dst.len() < at {
+        return false;
+    }
+    if dst.len() - at < width {
+        return false;
+    }
+    dst[at] = t.len() as u8;
+    let text = at + 1;
+    copy_into(dst, text, t);
+    put_zeros(dst, text + t.len(), width - 1 - t.len());
+    true
+}
+
+// The text of such a field.
+pub fn text_of(f: &[u8]) -> &[u8]
+    ensures { λ r. ⌜ now r ≡ textOf (now (f .entry)) ⌝ }
+{
+    part(f, 1, byte_at(f, 0) as usize)
+}
+
+// The last place of n, 0 where there is none.
+fn last(n: usize) -> usize
+    ensures { λ r. ⌜ r ≡ n - 1 ⌝ }
+{
+    if n == 0 { 0 } else { n - 1 }
+}
+
+// Whether f is so formed: a text of `least` bytes or more, each of low to high, and zeros after it.
+pub fn padded_ok(f: &[u8], least: usize, low: u8, high: u8) -> bool
+    ensures { λ r. ⌜ r ≡ paddedOk least low high (now (f .entry)) ⌝ }
+{
+    let n = byte_at(f, 0) as usize;
+    if n < least {
+        return false;
+    }
+    if last(f.len()) < n {
+        return false;
+    }
+    if !all_in(text_of(f), low, high) {
+        return false;
+    }
+    all_in(part(f, n + 1, f.len()), 0, 0)
 }
