@@ -1,0 +1,45 @@
+-- "A restart reads whole notes, drops a part at the end, and says how many bytes are whole."
+use Prim.Native.Nat.{ℕ, zero, suc, _+_}
+use mathlib.Core.List.{List}
+use mathlib.Core.Bool.{cond}
+use lib.ListN.{length, drop}
+use Rattle.octet.specs.Bytes.{joined}
+use Rattle.octet.specs.Splice.{splice}
+use Rattle.note.specs.Notes.{Reading, Whole, Part, Unknown, readNote}
+use Rattle.note.specs.Kept.{Kept, empty, lawful, after}
+use Rattle.restart.specs.declared.Counts.{Counts}
+use Rattle.restart.specs.declared.Restarted.{Restarted}
+use Rattle.restart.specs.declared.Restarted.the-variants as restarted
+
+-- what is kept, and how many bytes are whole; or "unlawful note, with its first byte's place, from 0"
+pub data Outcome : Type 0 where
+  Again : Kept → ℕ → Outcome
+  Unlawful : ℕ → Outcome
+
+abbrev pub byRead : Kept → ℕ → (Kept → ℕ → Outcome) → Reading → Outcome
+byRead q at go Part = Again q at
+byRead q at go Unknown = Unlawful at
+byRead q at go (Whole note n) = cond (lawful q note) (go (after q note) n) (Unlawful at)
+
+-- at most `most` notes of s, whose first byte is at place `at`
+unfoldable pub run : ℕ → Kept → ℕ → List ℕ → Outcome
+run zero q at s = Again q at
+run (suc most) q at s = byRead q at (λ (r : Kept) (n : ℕ). run most r (at + n) (drop n s)) (readNote s)
+
+-- all notes: a note has at least one byte
+unfoldable pub restart : List ℕ → Outcome
+restart notes = run (length notes) empty 0 notes
+
+-- ---- the code's answer, with the slots in the lent book: "Lent bytes past what is written stay"
+
+abbrev pub countsOf : Kept → Counts
+countsOf q = record { e = q .e; o = q .o; fills = length (q .slots); orders = q .orders; acked = q .acked }
+
+abbrev pub told : Outcome → Restarted
+told (Again q whole) = restarted.Again (countsOf q) whole
+told (Unlawful at) = restarted.Unlawful at
+
+-- the book after it: only the used slots are written; "Nothing changes" where it is refused
+abbrev pub bookAfter : List ℕ → Outcome → List ℕ
+bookAfter book (Again q whole) = splice book 0 (joined (q .slots))
+bookAfter book (Unlawful at) = book
