@@ -9,11 +9,11 @@ use native.Mathlib.Omega.{arith}
 use lib.Arith.{mod-mul, digits-lt, digits-div, digits-mod}
 use lib.Dec.{lit<, leb}
 use lib.ListN.{length, take, drop, getD, set, length-append, length-reverse}
-use Rattle.octet.specs.Bytes.{between, allIn, part}
+use Rattle.octet.specs.Bytes.{between, allIn, same, part}
 use Rattle.octet.specs.Places.{valueOf, placesOf, Order, HighFirst, LowFirst, ordered, numberBytes, numberIn, high, bigEndian}
 use Rattle.octet.specs.Splice.{splice}
 use Rattle.octet.proofs.Cases.{and-both, and-make}
-use Rattle.octet.proofs.Lists.{drop-step, is-between, between-low, between-high, splice-nil, splice-front, set-splice}
+use Rattle.octet.proofs.Lists.{drop-step, part-add, length-part, same-false, is-between, between-low, between-high, splice-nil, splice-front, set-splice}
 
 -- ---- lengths
 pub places-length : (base nought width n : ℕ) → length (placesOf base nought width n) ≡ width
@@ -129,6 +129,49 @@ number-read order width n at s h e = rw e (number-back order width n h)
 -- one number has one writing
 pub number-one : (order : Order) (width m n : ℕ) → m < 256 ^ width → n < 256 ^ width → numberBytes order width m ≡ numberBytes order width n → m ≡ n
 number-one order width m n hm hn e = sym (number-back order width m hm) ∙ ap (numberIn order) e ∙ number-back order width n hn
+
+-- ---- low byte first: the words by which two lists are told apart
+pub low-append : (s t : List ℕ) → numberIn LowFirst (s ++ t) ≡ numberIn LowFirst s + numberIn LowFirst t * 256 ^ length s
+unfolding numberIn
+low-append s t =
+    ap (valueOf 256 0 0) (reverse-append s t)
+    ∙ value-append 256 0 0 (reverse t) (reverse s)
+    ∙ value-split 256 0 (valueOf 256 0 0 (reverse t)) (reverse s)
+    ∙ rw length-reverse (add-comm (valueOf 256 0 0 (reverse t) * 256 ^ length s) (valueOf 256 0 0 (reverse s)))
+
+low-step : (s : List ℕ) (i n : ℕ) → i < length s → numberIn LowFirst (part i (suc n) s) ≡ getD s i 0 + numberIn LowFirst (part (i + 1) n s) * 256
+unfolding numberIn
+low-step s i n h =
+    ap (λ (l : List ℕ). numberIn LowFirst (take (suc n) l)) (drop-step s i h)
+    ∙ low-append (getD s i 0 ∷ []) (part (i + 1) n s)
+    ∙ ap (λ (k : ℕ). k + numberIn LowFirst (part (i + 1) n s) * 256) (rw (zero-mul, zero-add) (sub-zero (getD s i 0)))
+
+low-none : (s : List ℕ) (i : ℕ) → numberIn LowFirst (part i 0 s) ≡ 0
+unfolding numberIn
+low-none s i = refl
+
+pub low-four : (s : List ℕ) (i : ℕ) → i + 4 ≤ length s
+    → numberIn LowFirst (part i 4 s) ≡ getD s i 0 + getD s (i + 1) 0 * 256 + getD s (i + 2) 0 * 65536 + getD s (i + 3) 0 * 16777216
+low-four s i h =
+    let j : i + 1 + 1 ≡ i + 2 = omega arith in
+    let k : i + 2 + 1 ≡ i + 3 = omega arith in
+    let a = low-step s i 3 (omega arith) in
+    let b = low-step s (i + 1) 2 (omega arith) in
+    let c = rw j at (low-step s (i + 1) 2 (omega arith)) in
+    let d = rw k at (low-step s (i + 2) 1 (omega arith)) in
+    let e = low-step s (i + 3) 0 (omega arith) in
+    omega (arith, a, c, d, e, low-none s (i + 3 + 1))
+
+pub low-eight : (s : List ℕ) (i : ℕ) → i + 8 ≤ length s
+    → numberIn LowFirst (part i 8 s) ≡ numberIn LowFirst (part i 4 s) + numberIn LowFirst (part (i + 4) 4 s) * 4294967296
+low-eight s i h =
+    ap (numberIn LowFirst) (part-add i 4 4 s)
+    ∙ low-append (part i 4 s) (part (i + 4) 4 s)
+    ∙ ap (λ (k : ℕ). numberIn LowFirst (part i 4 s) + numberIn LowFirst (part (i + 4) 4 s) * 256 ^ k) (length-part i 4 s (omega arith))
+
+-- lists that differ in a number of some part are not the same
+pub number-differs : (order : Order) (at n : ℕ) (a b : List ℕ) → (numberIn order (part at n a) ≡ numberIn order (part at n b) → ⊥) → same a b ≡ false
+number-differs order at n a b h = same-false a b (λ e. h (ap (λ (l : List ℕ). numberIn order (part at n l)) e))
 
 -- ---- the loops that read and write bytes
 -- before the first turn of a writing loop, and after a turn: `left` places are still to be written

@@ -1,11 +1,11 @@
 // Bytes in lent memory: compared, measured, cut into parts and copied; and in them numbers, high byte first,
 // and texts with a length byte and zero padding.
 ghost use mathlib.Core.Path.{_≡_};
-ghost use Prim.Native.Nat.{_+_, _-_, _^_, _≤_, _<_};
+ghost use Prim.Native.Nat.{_+_, _-_, _*_, _^_, _≤_, _<_};
 ghost use mathlib.Core.Bool.{cond, _&&_};
 ghost use lib.ListN.{length, getD, replicate};
 ghost use Rattle.octet.specs.Bytes.{same, agree, part, untilByte, runIn, allIn};
-ghost use Rattle.octet.specs.Places.{high, bigEndian};
+ghost use Rattle.octet.specs.Places.{LowFirst, numberIn, high, bigEndian};
 ghost use Rattle.octet.specs.Splice.{splice, fitsAt};
 ghost use Rattle.octet.specs.Padded.{fitsWidth, padded, textOf, paddedOk};
 
@@ -33,11 +33,56 @@ pub fn agree(o: &[u8], s: &[u8]) -> bool
     true
 }
 
-// Whether a and b hold the same bytes: as many, and those agree.
+// A byte as a word.
+fn wide(b: u8) -> u64
+    ensures { λ r. ⌜ (r ≡ b) × (r < 256) ⌝ }
+{
+    b as u64
+}
+
+// The byte at place i, as a word.
+fn byte(s: &[u8], i: usize) -> u64
+    requires { ⌜ i < length (now s) ⌝ }
+    ensures { λ r. ⌜ (r ≡ getD (now (s .entry)) i 0) × (r < 256) ⌝ }
+{
+    wide(s[i])
+}
+
+// The number that four bytes are, low byte first.
+fn four(s: &[u8], i: usize) -> u64
+    requires { ⌜ i + 4 ≤ length (now s) ⌝ }
+    ensures { λ r. ⌜ (r ≡ numberIn LowFirst (part i 4 (now (s .entry)))) × (r < 4294967296) ⌝ }
+{
+    byte(s, i) + byte(s, i + 1) * 256 + byte(s, i + 2) * 65536 + byte(s, i + 3) * 16777216
+}
+
+// The number that eight bytes are, low byte first: so written it is one load.
+fn word(s: &[u8], i: usize) -> u64
+    requires { ⌜ i + 8 ≤ length (now s) ⌝ }
+    ensures { λ r. ⌜ r ≡ numberIn LowFirst (part i 8 (now (s .entry))) ⌝ }
+{
+    four(s, i) + four(s, i + 4) * 4294967296
+}
+
+// Whether a and b hold the same bytes: as many, and those agree. The last two words are compared first, since the
+// identifiers of a day share their front.
 pub fn same(a: &[u8], b: &[u8]) -> bool
     ensures { λ r. ⌜ r ≡ same (now (a .entry)) (now (b .entry)) ⌝ }
 {
-    if a.len() != b.len() {
+    let n = a.len();
+    if n != b.len() {
+        return false;
+    }
+    if n < 8 {
+        return agree(a, b);
+    }
+    if word(a, n - 8) != word(b, n - 8) {
+        return false;
+    }
+    if n < 16 {
+        return agree(a, b);
+    }
+    if word(a, n - 16) != word(b, n - 16) {
         return false;
     }
     agree(a, b)
@@ -55,6 +100,13 @@ pub fn part(s: &[u8], at: usize, n: usize) -> &[u8]
     }
     let end = at + n;
     &s[at..end]
+}
+
+// Whether the bytes of m from place `at` on begin with x.
+pub fn same_at(m: &[u8], at: usize, x: &[u8]) -> bool
+    ensures { λ r. ⌜ r ≡ same (part at (length (now (x .entry))) (now (m .entry))) (now (x .entry)) ⌝ }
+{
+    same(part(m, at, x.len()), x)
 }
 
 // How many bytes stand before the first b.
