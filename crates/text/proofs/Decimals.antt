@@ -1,22 +1,26 @@
--- Laws of decimal numbers.
+-- Numbers written: decimals with no leading zeros, so many digits, prices; and that what is written reads back.
 --     decimal-small, decimal-large     a number below ten is its digit; any other is the decimal of its tenth, and its last digit
---     decimal-length     a number below 10 ^ k has at most k digits
+--     decimal-ind     what holds of every digit and of one digit more holds of every decimal
+--     decimal-some, decimal-length, decimal-lead, decimal-digits     some digits, at most k below ten to the k, no leading zero, nothing but digits
+--     decimal-back, decimal-injective, decimal-run, decimal-front     read back, and read at the front of what no digit follows
+--     fixed-length, fixed-digits, fixed-back, fixed-low, fixed-run, fixed-front     the same of so many digits
+--     price-text .. price-back     the whole before the point, the point, four digits after it, and the price from them
+--     decimal-unmarked, fixed-unmarked, price-unmarked     none has the byte that ends a field
 use mathlib.Core.Path.{_≡_, refl, sym, ap, _∙_}
-use mathlib.Core.List.{List, [], _∷_, _++_}
+use mathlib.Core.List.{List, [], _∷_, _++_, append-assoc}
 use mathlib.Core.Bool.{Bool, true, false}
-use mathlib.Core.Logic.{⊎-elim}
 use Prim.Native.Nat.{ℕ, zero, suc, _+_, _*_, _/_, _%_, _-_, _^_, _≤_, _<_}
 use native.Mathlib.Nat.{not-suc-le-zero, pow-succ', zero-mul, zero-add}
 use native.Mathlib.Omega.{arith}
-use native.Mathlib.Decide.{decLt}
 use borrow.Author.Tests.{lt-ltb, le-ltb, ltb-true, ltb-false}
 use lib.Dec.{ltb, lit<, lit≤}
-use Rattle.octet.specs.Bytes.{allIn}
-use Rattle.octet.proofs.Cases.{and-make}
-use Rattle.octet.proofs.Lists.{is-between, allIn-append}
+use Rattle.octet.specs.Bytes.{between, allIn, untilByte}
+use Rattle.octet.proofs.Cases.{and-both, and-make}
+use Rattle.octet.proofs.Lists.{is-between, between-low, between-high, allIn-append, until-in}
 use Rattle.text.proofs.ReadLaws.{run-digits, front-digits}
 use Rattle.octet.proofs.Places.{value-append, value-after, value-places, places-length, places-in}
-use lib.ListN.{length, getD, length-append, List·getD-append}
+use lib.ListN.{length, take, drop, getD, length-append, List·getD-append}
+use lib.Seq.{take-append-seam, drop-append-add, getD-append-seam}
 use Rattle.text.specs.Decimal.{decimalBy, decimal, digits, digitRun, digitsAtFront, fixed, priceText}
 
 -- one more digit, where there is one
@@ -147,8 +151,52 @@ fixed-front most width n t h a b =
     ∙ ap (λ (k : ℕ). record { len = k; value = digits (fixed width n) }) l
     ∙ ap (λ (v : ℕ). record { len = width; value = v }) (fixed-low width n)
 
--- ---- prices
+-- ---- no digit is the byte that ends a field
+pub decimal-unmarked : (n : ℕ) → untilByte 1 (decimal n) ≡ length (decimal n)
+decimal-unmarked n = until-in 1 48 57 (decimal n) (decimal-digits n) refl
 
--- the number before the point and the four decimals after it give the price
-pub price-back : (p : ℕ) → digits (decimal (p / 10000)) * 10000 + digits (fixed 4 p) ≡ p
-price-back p = rw (decimal-back (p / 10000), fixed-low 4 p) (omega arith)
+pub fixed-unmarked : (width n : ℕ) → untilByte 1 (fixed width n) ≡ length (fixed width n)
+fixed-unmarked width n = until-in 1 48 57 (fixed width n) (fixed-digits width n) refl
+
+wider : (s : List ℕ) → allIn 48 57 s ≡ true → allIn 46 57 s ≡ true
+wider [] h = refl
+wider (b ∷ s) h =
+    let e = and-both (between 48 57 b) (allIn 48 57 s) h in
+    let l : 46 ≤ b = omega (arith, between-low 48 57 b (e .0)) in
+    and-make _ _ (is-between 46 57 b l (between-high 48 57 b (e .0))) (wider s (e .1))
+
+-- ---- prices, as a reader of digits, a point and digits sees them
+
+module _ (p : ℕ) where
+  abbrev whole : List ℕ
+  whole = decimal (p / 10000)
+
+  pub price-text : priceText p ≡ whole ++ 46 ∷ fixed 4 p
+  unfolding priceText
+  price-text = append-assoc whole (46 ∷ []) (fixed 4 p)
+
+  pub price-length : length (priceText p) ≡ length whole + 5
+  price-length = rw price-text (simp length-append (omega arith))
+
+  pub price-run : digitRun (priceText p) ≡ length whole
+  price-run = rw price-text (decimal-run (p / 10000) (46 ∷ fixed 4 p) refl)
+
+  pub price-whole : take (length whole) (priceText p) ≡ whole
+  price-whole = rw price-text (take-append-seam whole (46 ∷ fixed 4 p))
+
+  pub price-point : getD (priceText p) (length whole) 0 ≡ 46
+  price-point = rw price-text (getD-append-seam whole 46 (fixed 4 p) 0)
+
+  pub price-after : drop (length whole + 1) (priceText p) ≡ fixed 4 p
+  price-after = rw price-text (drop-append-add whole (46 ∷ fixed 4 p) 1)
+
+  -- the number before the point and the four digits after it give the price back
+  pub price-back : digits whole * 10000 + digits (fixed 4 p) ≡ p
+  price-back = rw (decimal-back (p / 10000), fixed-low 4 p) (omega arith)
+
+  pub price-bytes : allIn 46 57 (priceText p) ≡ true
+  price-bytes =
+      rw price-text (allIn-append 46 57 whole (46 ∷ fixed 4 p) ∙ and-make _ _ (wider whole (decimal-digits (p / 10000))) (wider (fixed 4 p) (fixed-digits 4 p)))
+
+pub price-unmarked : (p : ℕ) → untilByte 1 (priceText p) ≡ length (priceText p)
+price-unmarked p = until-in 1 46 57 (priceText p) (price-bytes p) refl

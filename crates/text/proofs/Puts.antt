@@ -1,7 +1,8 @@
 -- Bytes put to a text.
---     puts-puts     a run of puts is one put
---     held-puts     what an empty text holds once bytes are put to it: those bytes, cut to room
---     held-short    and where they are few, just those bytes
+--     puts-none, puts-puts     nothing more, and more after more
+--     held-more     what a text holds once more is put to it, cut to the room
+--     held-puts, held-short     what an empty text holds once bytes are put to it, and where they are few
+--     held-length, held-front     how much a text holds: a front of its bytes
 use mathlib.Core.Path.{_≡_, refl, sym, ap, _∙_}
 use mathlib.Core.Bool.{Bool, true, false, cond}
 use mathlib.Core.List.{List, [], _∷_, _++_, append-nil, append-assoc}
@@ -18,6 +19,10 @@ use lib.Seq.{take-all, take-length, take-suc-set, take-append-le, length-take-le
 use Rattle.text.specs.Writing.{room, textWith, put1, puts, held, empty}
 use Rattle.text.specs.declared.Text.{Text}
 
+pub puts-none : (t : Text) → puts t [] ≡ t
+unfolding puts
+puts-none t = refl
+
 pub puts-puts : (t : Text) (xs ys : List ℕ) → puts (puts t xs) ys ≡ puts t (xs ++ ys)
 unfolding puts
 puts-puts t [] ys = refl
@@ -27,8 +32,8 @@ puts-puts t (x ∷ xs) ys = puts-puts (put1 t x) xs ys
 one : (t : Text) (b : ℕ) → length (t .bytes) ≡ room → (length (put1 t b .bytes) ≡ room) × (held (put1 t b) ≡ take room (held t ++ b ∷ []))
 unfolding held
 one t b e = by (ltb (t .len) room) refl where
-  by : (w : Bool) → ltb (t .len) room ≡ w → (length (cond w (record { bytes = set (t .bytes) (t .len) b; len = t .len + 1 }) t .bytes) ≡ room)
-      × (held (cond w (record { bytes = set (t .bytes) (t .len) b; len = t .len + 1 }) t) ≡ take room (take (t .len) (t .bytes) ++ b ∷ []))
+  by : (w : Bool) → ltb (t .len) room ≡ w → (length (cond w (textWith (set (t .bytes) (t .len) b) (t .len + 1)) t .bytes) ≡ room)
+      × (held (cond w (textWith (set (t .bytes) (t .len) b) (t .len + 1)) t) ≡ take room (take (t .len) (t .bytes) ++ b ∷ []))
   by true h =
       let l : t .len < room = ltb-true _ _ h in
       let s : length (take (t .len) (t .bytes) ++ b ∷ []) ≤ room = simp (length-append, length-take-le (t .len) (t .bytes) (omega arith)) (omega arith) in
@@ -43,16 +48,16 @@ take-onto zero xs ys = refl
 take-onto (suc n) [] ys = refl
 take-onto (suc n) (x ∷ xs) ys = ap (λ (l : List ℕ). x ∷ l) (take-onto n xs ys)
 
-held-all : (t : Text) (xs : List ℕ) → length (t .bytes) ≡ room → held (puts t xs) ≡ take room (held t ++ xs)
+pub held-more : (t : Text) (xs : List ℕ) → length (t .bytes) ≡ room → held (puts t xs) ≡ take room (held t ++ xs)
 unfolding puts held
-held-all t [] e = rw append-nil (sym (take-all room _ (simp length-take (omega arith))))
-held-all t (x ∷ xs) e =
+held-more t [] e = rw append-nil (sym (take-all room _ (simp length-take (omega arith))))
+held-more t (x ∷ xs) e =
     let o = one t x e in
-    held-all (put1 t x) xs (o .0) ∙ rw (o .1, take-onto, append-assoc)
+    held-more (put1 t x) xs (o .0) ∙ rw (o .1, take-onto, append-assoc)
 
 pub held-puts : (xs : List ℕ) → held (puts empty xs) ≡ take room xs
 unfolding empty held
-held-puts xs = held-all empty xs (length-replicate {A = ℕ} room 0)
+held-puts xs = held-more empty xs (length-replicate {A = ℕ} room 0)
 
 pub held-short : (xs : List ℕ) → length xs ≤ room → held (puts empty xs) ≡ xs
 held-short xs h = held-puts xs ∙ take-all room xs h
@@ -63,7 +68,12 @@ unfolding held
 held-length t = length-take (t .len) (t .bytes)
 
 take-most : (n : ℕ) (l : List ℕ) → take (min n (length l)) l ≡ take n l
-take-most n l = ⊎-elim (λ h. ap (λ (k : ℕ). take k l) (min-eq-left h)) (λ h. let e : length l ≤ n = omega arith in ap (λ (k : ℕ). take k l) (min-eq-right e) ∙ take-length l ∙ sym (take-all n l e)) (le-or-lt n (length l))
+take-most n l =
+    ⊎-elim (λ h. ap (λ (k : ℕ). take k l) (min-eq-left h))
+    (λ h.
+    let e : length l ≤ n = omega arith in
+    ap (λ (k : ℕ). take k l) (min-eq-right e) ∙ take-length l ∙ sym (take-all n l e))
+    (le-or-lt n (length l))
 
 pub held-front : (t : Text) (n : ℕ) → n ≡ length (held t) → take n (t .bytes) ≡ held t
 unfolding held

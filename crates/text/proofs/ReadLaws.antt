@@ -5,21 +5,19 @@
 --     front-digits     what is read from the front of digits that no digit follows
 --     front-fits     what is read fits
 use mathlib.Core.Path.{_≡_, refl, sym, ap, _∙_}
-use mathlib.Core.Bool.{Bool, true, false, cond, _&&_}
+use mathlib.Core.Bool.{Bool, true, false}
 use mathlib.Core.List.{List, [], _∷_, _++_}
 use Prim.Native.Nat.{ℕ, zero, suc, _+_, _*_, _-_, _^_, _≤_, _<_, min}
-use native.Mathlib.Nat.{add-zero, zero-add, one-mul, sub-zero, pow-suc, pow-le-pow-right, lt-of-lt-of-le, min-zero, zero-min, suc-min-suc, min-le-left, min-le-right}
-use native.Mathlib.Numerals.{add-one}
+use native.Mathlib.Nat.{add-zero, zero-add, sub-zero, min-zero, zero-min, suc-min-suc}
 use native.Mathlib.Omega.{arith}
-use lib.ListN.{length, getD, take, drop, drop-of-length-le, length-take}
+use lib.ListN.{length, getD, take, drop}
 use lib.Seq.{take-append-seam, length-take-le}
-use lib.Dec.{leb, lit<}
-use borrow.Author.Tests.{le-leb, lt-leb, leb-true}
-use Rattle.octet.specs.Bytes.{between, allIn, runIn}
+use lib.Dec.{lit<}
+use Rattle.octet.specs.Bytes.{between, allIn}
 use Rattle.octet.specs.Places.{valueOf}
 use Rattle.text.specs.Decimal.{digits, digitRun, digitsTaken, digitsAtFront, Fits}
 use Rattle.octet.proofs.Cases.{and-both}
-use Rattle.octet.proofs.Lists.{drop-step, drop-done, run-stop, run-most, run-in}
+use Rattle.octet.proofs.Lists.{drop-step, drop-done, run-stop, run-most}
 use Rattle.octet.proofs.Places.{value-append, value-split, value-below, below-pow}
 use Rattle.text.specs.declared.Digits.{Digits}
 

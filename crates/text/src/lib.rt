@@ -28,6 +28,11 @@ pub struct Text {
 // The byte that ends a field, written `|`.
 const MARK: u8 = 1;
 
+// A price is kept in ten-thousandths, and written with four decimals.
+const PARTS: u64 = 10000;
+
+const DECIMALS: usize = 4;
+
 impl Text {
     pub fn new() -> Text
         ensures { λ r. ⌜ r ≡ empty ⌝ }
@@ -284,9 +289,9 @@ fn fixed_at(b: &mut [u8; ROOM], at: usize, width: usize, n: u64) -> usize
 fn price_at(b: &mut [u8; ROOM], at: usize, p: u64) -> usize
     ensures { λ r. ⌜ textWith (now (b .exit)) r ≡ puts (textWith (now (b .entry)) at) (priceText p) ⌝ }
 {
-    let point = decimal_at(b, at, p / 10000);
+    let point = decimal_at(b, at, p / PARTS);
     let after = put_at(b, point, b'.');
-    fixed_at(b, after, 4, p)
+    fixed_at(b, after, DECIMALS, p)
 }
 
 fn field_at(b: &mut [u8; ROOM], at: usize, tag: u32, v: &[u8], n: usize) -> usize

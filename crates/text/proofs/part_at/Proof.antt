@@ -1,7 +1,7 @@
--- The invariant: the text is the first one with the first i bytes of s.
-use mathlib.Core.Path.{_≡_, refl, sym, ap, _∙_}
-use mathlib.Core.List.{List, [], _∷_, _++_, append-assoc}
-use Prim.Native.Nat.{ℕ, _≤_, _<_, _-_, _+_}
+-- `text::part_at` meets its contract. The invariant: the text is the first one with the first i bytes of s.
+-- Assumes nothing.
+use mathlib.Core.Path.{_≡_, refl, sym, _∙_}
+use Prim.Native.Nat.{_≤_, _<_, _-_}
 use native.Mathlib.Numerals.{add-one}
 use lib.ListN.{length, take}
 use lib.Seq.{take-suc, take-all}
@@ -28,18 +28,6 @@ returns c =
     let e : l .i ≡ c .before .before .before .before .args .n = omega arith in
     rw (← e) (l .inv .2)
 
-shared-slice-read-put-at : tie.Need-shared-slice-read-put-at Inv-loop μ-loop
-shared-slice-read-put-at c = search needs
-
-put-at-requires : tie.Need-put-at-requires Inv-loop μ-loop
-put-at-requires c κs = search needs
-
-add-i : tie.Need-add-i Inv-loop μ-loop
-add-i c = omega arith
-
-loop-less : tie.Need-loop-less Inv-loop μ-loop
-loop-less c = omega arith
-
 loop-again : tie.Need-loop-again Inv-loop μ-loop
 loop-again c =
     let b = c .before .before .before .before .before in
@@ -62,9 +50,9 @@ part-at-spec =
     μ-loop
     loop-holds
     returns
-    shared-slice-read-put-at
-    put-at-requires
-    add-i
-    loop-less
+    (λ c. search needs)
+    (λ c κs. search needs)
+    (λ c. omega arith)
+    (λ c. omega arith)
     loop-again
     returns-2)

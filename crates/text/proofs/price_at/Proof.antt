@@ -7,18 +7,9 @@ use borrow.Author.Needs.{needs}
 use Rattle.text.proofs.price_at.Statement.{statement}
 use Rattle.text.proofs.price_at.Tie as tie
 
-decimal-at-requires : tie.Need-decimal-at-requires
-decimal-at-requires c κs = search needs
-
-put-at-requires : tie.Need-put-at-requires
-put-at-requires c κs = search needs
-
-fixed-at-requires : tie.Need-fixed-at-requires
-fixed-at-requires c κs = search needs
-
 returns : tie.Need-returns
 unfolding priceText
 returns c = simp (c .fixed-at .ensures, c .before .before .put-at .ensures, c .before .before .before .before .decimal-at .ensures, puts-puts, append-assoc)
 
 pub price-at-spec : {M : Type 1} → statement M
-price-at-spec = tie.close (tie.spec decimal-at-requires put-at-requires fixed-at-requires returns)
+price-at-spec = tie.close (tie.spec (λ c κs. search needs) (λ c κs. search needs) (λ c κs. search needs) returns)

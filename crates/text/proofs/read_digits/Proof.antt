@@ -1,15 +1,12 @@
 -- `text::read_digits` meets its contract. The invariant: what is left to read, after what is read so far, is what the definition says.
 -- Assumes nothing.
-use Prim.Native.Nat.{ℕ, _≤_, _<_, _-_, _^_, min}
+use Prim.Native.Nat.{ℕ, _≤_, _<_, _-_, _^_}
 use mathlib.Core.Path.{_≡_, sym, ap, _∙_}
-use mathlib.Core.Bool.{false}
 use native.Mathlib.Omega.{arith}
-use native.Mathlib.Nat.{min-le-left, min-le-right}
 use mathlib.Core.List.{List}
 use lib.ListN.{length, getD, drop}
 use lib.Dec.{lit<}
 use borrow.Author.Needs.{needs}
-use Rattle.octet.specs.Bytes.{between}
 use Rattle.text.specs.Decimal.{digitsAtFront, Fits}
 use Rattle.text.specs.declared.Digits.{Digits}
 use Rattle.text.proofs.ReadLaws.{soFar, start, full, past, stop, more}
@@ -40,17 +37,11 @@ answer p h =
     let l : p .loop .len ≤ 9 = omega (arith, p .before .fewer .ensures) in
     (sym (p .loop .inv .3 ∙ h), record { inside = p .loop .inv .1; asked = omega (arith, p .before .fewer .ensures); short = l; small = below-pow 10 9 (lit< tt) (p .loop .inv .2) l })
 
-fewer-requires : tie.Need-fewer-requires Inv-loop μ-loop
-fewer-requires c κs = search needs
-
 loop-holds : tie.Need-loop-holds Inv-loop μ-loop
 loop-holds c = (search needs, search needs, lit< tt, start _ _ ∙ ap (λ (e : ℕ). soFar 0 0 (e - 0) (c .before .before .args .s .now)) (sym (c .fewer .ensures)))
 
 returns : tie.Need-returns Inv-loop μ-loop
 returns c = answer (c .before .before) (past _ _ _ _ _ (c .if1 .taken))
-
-shared-slice-read-b : tie.Need-shared-slice-read-b Inv-loop μ-loop
-shared-slice-read-b c = search needs
 
 returns-2 : tie.Need-returns-2 Inv-loop μ-loop
 returns-2 c =
@@ -68,17 +59,8 @@ small p h = below-pow 10 8 (lit< tt) (p .loop .inv .2) (omega (arith, p .before 
 mul-value : tie.Need-mul-value Inv-loop μ-loop
 mul-value c = omega (arith, small (c .before .before .before .before .before) (search needs))
 
-cast-value : tie.Need-cast-value Inv-loop μ-loop
-cast-value c = search needs
-
 add-value : tie.Need-add-value Inv-loop μ-loop
 add-value c = omega (arith, small (c .before .before .before .before .before) (search needs))
-
-add-len : tie.Need-add-len Inv-loop μ-loop
-add-len c = search needs
-
-loop-less : tie.Need-loop-less Inv-loop μ-loop
-loop-less c = search needs
 
 loop-again : tie.Need-loop-again Inv-loop μ-loop
 loop-again c =
@@ -103,16 +85,16 @@ read-digits-spec =
     (tie.spec
     Inv-loop
     μ-loop
-    fewer-requires
+    (λ c κs. search needs)
     loop-holds
     returns
-    shared-slice-read-b
+    (λ c. search needs)
     returns-2
     returns-3
     mul-value
-    cast-value
+    (λ c. search needs)
     add-value
-    add-len
-    loop-less
+    (λ c. search needs)
+    (λ c. search needs)
     loop-again
     returns-4)

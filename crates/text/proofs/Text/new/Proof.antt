@@ -1,3 +1,5 @@
+-- `text::Text::new` meets its contract.
+-- Assumes nothing.
 use mathlib.Core.Path.{refl}
 use Rattle.text.specs.Writing.{empty}
 use Rattle.text.proofs.Text.new.Statement.{statement}

@@ -7,17 +7,8 @@ use borrow.Author.Needs.{needs}
 use Rattle.text.proofs.Text.onto.Statement.{statement}
 use Rattle.text.proofs.Text.onto.Tie as tie
 
-size-requires : tie.Need-size-requires
-size-requires c κs = search needs
-
-slice-aggregate-part : tie.Need-slice-aggregate-part
-slice-aggregate-part c = search needs
-
-part-requires : tie.Need-part-requires
-part-requires c κs = search needs
-
 returns : tie.Need-returns
 returns c = c .part .ensures ∙ ap (puts _) (held-front _ _ (c .before .before .before .size .ensures .0))
 
 pub onto-spec : {M : Type 1} → statement M
-onto-spec = tie.close (tie.spec size-requires slice-aggregate-part part-requires returns)
+onto-spec = tie.close (tie.spec (λ c κs. search needs) (λ c. search needs) (λ c κs. search needs) returns)

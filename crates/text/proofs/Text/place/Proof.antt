@@ -28,17 +28,11 @@ fits c = sym (c .copy-into .ensures .0 ∙ ap (fitsAt (entry c .args .dst .now) 
 written : (c : tie.After-copy-into) → c .copy-into .last .0 ≡ splice (entry c .args .dst .now) (entry c .args .at) (held (entry c .args .self))
 written c = c .copy-into .ensures .1 ∙ ap (splice (entry c .args .dst .now) (entry c .args .at)) (copied (c .before .before .before .before))
 
-size-requires : tie.Need-size-requires
-size-requires c κs = search needs
-
 array-share-prefix-b : tie.Need-array-share-prefix-b
 array-share-prefix-b c = omega (arith, full (c .before .before .before .before), c .before .before .size .ensures .1)
 
 slice-aggregate-copy-into : tie.Need-slice-aggregate-copy-into
 slice-aggregate-copy-into c = simp length-take (omega (arith, full (c .before .before .before .before .before), c .before .before .before .size .ensures .1))
-
-copy-into-requires : tie.Need-copy-into-requires
-copy-into-requires c κs = search needs
 
 add-result : tie.Need-add-result
 add-result c =
@@ -47,17 +41,11 @@ add-result c =
     let h : entry k .args .at + length (held (entry k .args .self)) ≤ length (entry k .args .dst .now) = leb-true _ _ (fits k ∙ c .if1 .taken) in
     omega (arith, s .size .ensures .0)
 
-same-length : tie.Need-same-length
-same-length c = search needs
-
 returns : tie.Need-returns
 returns c =
     let k = c .before .before .before in
     let s = k .before .before .before .before in
     (written k, rw (fits k ∙ c .if1 .taken) (ap (λ (n : ℕ). entry k .args .at + n) (s .size .ensures .0)))
-
-same-length-2 : tie.Need-same-length-2
-same-length-2 c = search needs
 
 returns-2 : tie.Need-returns-2
 returns-2 c =
@@ -68,12 +56,12 @@ pub place-spec : {M : Type 1} → statement M
 place-spec =
     tie.close
     (tie.spec
-    size-requires
+    (λ c κs. search needs)
     array-share-prefix-b
     slice-aggregate-copy-into
-    copy-into-requires
+    (λ c κs. search needs)
     add-result
-    same-length
+    (λ c. search needs)
     returns
-    same-length-2
+    (λ c. search needs)
     returns-2)

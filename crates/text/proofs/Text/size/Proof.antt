@@ -13,13 +13,10 @@ use Rattle.text.proofs.Text.size.Tie as tie
 full : (c : tie.Start) → length (c .args .self .bytes) ≡ room
 full c = search needs
 
-fewer-requires : tie.Need-fewer-requires
-fewer-requires c κs = search needs
-
 returns : tie.Need-returns
 returns c =
     let n = c .fewer .ensures in
     (n ∙ sym (held-length (c .before .args .self) ∙ ap (min (c .before .args .self .len)) (full (c .before))), omega arith)
 
 pub size-spec : {M : Type 1} → statement M
-size-spec = tie.close (tie.spec fewer-requires returns)
+size-spec = tie.close (tie.spec (λ c κs. search needs) returns)

@@ -13,17 +13,11 @@ use Rattle.text.proofs.Text.sum.Tie as tie
 full : (c : tie.Start) → length (c .args .self .bytes) ≡ room
 full c = search needs
 
-size-requires : tie.Need-size-requires
-size-requires c κs = search needs
-
 array-share-prefix-b : tie.Need-array-share-prefix-b
 array-share-prefix-b c = omega (arith, full (c .before .before), c .before .size .ensures .1)
 
 slice-aggregate-byte-sum : tie.Need-slice-aggregate-byte-sum
 slice-aggregate-byte-sum c = simp length-take (omega (arith, full (c .before .before .before), c .before .before .size .ensures .1))
-
-byte-sum-requires : tie.Need-byte-sum-requires
-byte-sum-requires c κs = search needs
 
 returns : tie.Need-returns
 returns c = c .byte-sum .ensures ∙ ap checkSum (held-front (c .before .before .before .before .args .self) _ (c .before .before .before .size .ensures .0))
@@ -32,8 +26,8 @@ pub sum-spec : {M : Type 1} → statement M
 sum-spec =
     tie.close
     (tie.spec
-    size-requires
+    (λ c κs. search needs)
     array-share-prefix-b
     slice-aggregate-byte-sum
-    byte-sum-requires
+    (λ c κs. search needs)
     returns)
