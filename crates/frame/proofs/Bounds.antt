@@ -3,9 +3,9 @@
 --     framed-by-fine, garbled-by-fine     over any opening
 --     framed-fine, garbled-fine     for `8=FIX.4.2|`
 --     answered-framed, answered-garbled     the verdict behind an answer
-use mathlib.Core.Path.{_≡_, refl, sym, _∙_, subst}
+use mathlib.Core.Path.{_≡_, refl, subst}
 use mathlib.Core.List.{List, [], _∷_, _++_}
-use mathlib.Core.Bool.{Bool, true, cond, _&&_}
+use mathlib.Core.Bool.{_&&_}
 use Prim.Native.Nat.{ℕ, suc, zero-le, suc-le-suc, _+_, _≤_}
 use native.Mathlib.Omega.{arith}
 use lib.ListN.{length, getD, take, drop}
@@ -16,8 +16,7 @@ use Rattle.octet.proofs.Cases.{of-cond, and-left}
 use Rattle.octet.proofs.Lists.{agree-none, between-low, between-high}
 use Rattle.text.specs.Decimal.{digitRun, digits, checkSum}
 use Rattle.frame.specs.Finding.{toAgree, skipOf, bodyOk, trailerOf, answered, opening, judgeWhole, judgeLength, judgeDigits, judge, foundBy, foundIn}
-use Rattle.frame.specs.declared.Found.{Found}
-use Rattle.frame.specs.declared.Found.the-variants.{More, Garbled, Framed}
+use Rattle.frame.specs.declared.Found.the-variants.{Garbled, Framed}
 use Rattle.frame.specs.declared.Verdict.{Verdict}
 use Rattle.frame.specs.declared.Verdict.the-variants.{Short, Failed, Whole}
 use Rattle.frame.proofs.Steps.{digits-past}

@@ -1,20 +1,19 @@
 -- A message that is put together as the paper says is framed at its length, whatever follows it, and its body is found in it.
 --     before, message     the parts of a message, one after another
 --     complete, body-found     over any opening, and any 1 to 4 digits that write the body's length
-use mathlib.Core.Path.{_≡_, refl, sym, _∙_, ap}
-use mathlib.Core.List.{List, [], _∷_, _++_, append-assoc}
-use mathlib.Core.Bool.{Bool, true, false}
+use mathlib.Core.Path.{_≡_, refl, sym, _∙_}
+use mathlib.Core.List.{List, _∷_, _++_, append-assoc}
+use mathlib.Core.Bool.{true}
 use Prim.Native.Nat.{ℕ, _+_, _-_, _≤_}
 use native.Mathlib.Omega.{arith}
 use lib.ListN.{length, getD, take, drop, length-append}
 use lib.Seq.{take-at, drop-at, getD-append-seam, getD-drop, take-append-seam}
 use borrow.Author.Tests.{le-ltb, lt-leb, le-leb}
-use Rattle.octet.specs.Bytes.{bytesOf, allIn, agree, part}
+use Rattle.octet.specs.Bytes.{bytesOf, allIn, agree}
 use Rattle.octet.proofs.Lists.{agree-self, run-before, is-between}
 use Rattle.text.specs.Decimal.{digits, digitRun, checkSum}
-use Rattle.frame.specs.Finding.{bodyOk, trailerOf, skipOf, answered, judgeWhole, judgeLength, judgeDigits, judge, foundBy, bodyBy}
+use Rattle.frame.specs.Finding.{bodyOk, trailerOf, judgeWhole, judgeLength, judgeDigits, judge, foundBy, bodyBy}
 use Rattle.frame.specs.declared.Found.the-variants.{Framed}
-use Rattle.frame.specs.declared.Verdict.{Verdict}
 use Rattle.frame.specs.declared.Verdict.the-variants.{Whole}
 
 -- 1 to 4 digits that write the length of a body, and the body

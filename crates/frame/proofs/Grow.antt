@@ -1,10 +1,10 @@
 -- What has failed stays failed, whatever bytes come after; only the skip may change, since it goes over all bytes.
 --     garbled-longer     over any opening
-use mathlib.Core.Path.{_≡_, refl, sym, _∙_, subst, ap}
+use mathlib.Core.Path.{_≡_, refl, sym, subst, ap}
 use mathlib.Core.Logic.{⊎-elim}
 use mathlib.Core.List.{List, [], _∷_, _++_}
 use mathlib.Core.Bool.{Bool, true, false, cond, _&&_}
-use Prim.Native.Nat.{ℕ, suc, zero-le, suc-le-suc, _+_, _-_, _≤_, _<_}
+use Prim.Native.Nat.{ℕ, suc, zero-le, suc-le-suc, _+_, _≤_, _<_}
 use native.Mathlib.Nat.{not-suc-le-zero, le-of-suc-le-suc}
 use native.Mathlib.Omega.{arith}
 use lib.ListN.{length, getD, take, drop, length-append, length-drop, List·getD-append}

@@ -2,7 +2,9 @@ pub mod Agree
 pub mod Steps
 pub mod Bounds
 pub mod Least
+pub mod Bodies
 pub mod Complete
+pub mod Written
 pub mod Sound
 pub mod Grow
 pub mod Unique
