@@ -11,6 +11,8 @@ use lib.Dec.{eqb}
 use borrow.Author.Tests.{eq-eqb, ne-eqb, eqb-true}
 use Rattle.octet.proofs.Cases.{of-cond, cond-true, cond-false, and-both, and-make, and-no-left, and-no-right}
 use Rattle.value.specs.Value.{wellFormed}
+use Rattle.value.specs.Readers.{checked}
+use Rattle.value.specs.declared.Check.the-variants.{Good}
 
 module _ (v : List ℕ) (good : ℕ) (complete : Bool) where
   pub form-short : (good ≡ length v → ⊥) → wellFormed v good complete ≡ some good
@@ -28,3 +30,9 @@ module _ (v : List ℕ) (good : ℕ) (complete : Bool) where
       of-cond (λ (o : Option ℕ). o ≡ none → (good ≡ length v) × (complete ≡ true)) (eqb good (length v) && complete)
       (λ e f. (let p = and-both (eqb good (length v)) complete e in (eqb-true good (length v) (p .0), p .1)))
       (λ e f. absurd (let z : _≡_ {A = ℕ} 0 1 = cc in omega arith))
+
+-- what is good has its form and its range
+pub checked-good : (form : Option ℕ) (fits : Bool) → checked form fits ≡ Good → (form ≡ none) × (fits ≡ true)
+checked-good (some at) fits e = absurd (let z : _≡_ {A = ℕ} 0 1 = cc in omega arith)
+checked-good none true e = (refl, refl)
+checked-good none false e = absurd (let z : _≡_ {A = ℕ} 0 1 = cc in omega arith)

@@ -1,11 +1,16 @@
--- How far a value is like a pattern: a walk over both.
+-- How far a value is like a pattern: a walk over both, and a value that is like it as far as it goes.
+--     like-go, like-stop, like-past, like-done     the walk
+--     like-digits     where digits stand in the pattern, digits stand in such a value
+--     like-append     such a value, and what follows it
 use mathlib.Core.Path.{_≡_, refl, sym, ap, ap₂, _∙_}
-use mathlib.Core.List.{List, [], _∷_}
+use mathlib.Core.List.{List, [], _∷_, _++_}
 use mathlib.Core.Bool.{Bool, true, false, cond}
-use Prim.Native.Nat.{ℕ, suc, _+_, _≤_, _<_}
+use Prim.Native.Nat.{ℕ, zero, suc, _+_, _≤_, _<_}
 use native.Mathlib.Omega.{arith}
-use lib.ListN.{length, getD, drop}
-use Rattle.octet.proofs.Cases.{cond-true, cond-false}
+use lib.ListN.{length, getD, take, drop}
+use native.Mathlib.Nat.{zero-add}
+use Rattle.octet.specs.Bytes.{between, allIn, part}
+use Rattle.octet.proofs.Cases.{of-cond, cond-true, cond-false, and-both, and-make}
 use Rattle.octet.proofs.Lists.{drop-step, drop-done}
 use Rattle.value.specs.Value.{likeByte, likeRun}
 
@@ -27,3 +32,34 @@ module _ (p v : List ℕ) (i : ℕ) where
 
   pub like-done : length v ≤ i → likeRun (drop i p) (drop i v) ≡ 0
   like-done h = ap (likeRun (drop i p)) (drop-done v i h) ∙ like-none (drop i p)
+
+-- ---- a value that is like a pattern as far as it goes
+like-head : (t b : ℕ) (p v : List ℕ) → likeRun (t ∷ p) (b ∷ v) ≡ suc (length v) → (likeByte t b ≡ true) × (likeRun p v ≡ length v)
+like-head t b p v =
+    of-cond (λ (n : ℕ). n ≡ suc (length v) → (likeByte t b ≡ true) × (likeRun p v ≡ length v)) (likeByte t b)
+    (λ e h. (e, omega arith)) (λ e h. absurd (omega arith))
+
+like-drop : (at : ℕ) (p v : List ℕ) → likeRun p v ≡ length v → likeRun (drop at p) (drop at v) ≡ length (drop at v)
+like-drop zero p v h = h
+like-drop (suc at) p [] h = like-none (drop (suc at) p)
+like-drop (suc at) [] (b ∷ v) h = absurd (omega arith)
+like-drop (suc at) (t ∷ p) (b ∷ v) h = like-drop at p v (like-head t b p v h .1)
+
+like-front : (n : ℕ) (p v : List ℕ) → likeRun p v ≡ length v → allIn 48 57 (take n p) ≡ true → allIn 48 57 (take n v) ≡ true
+like-front zero p v h e = refl
+like-front (suc n) p [] h e = refl
+like-front (suc n) [] (b ∷ v) h e = absurd (omega arith)
+like-front (suc n) (t ∷ p) (b ∷ v) h e =
+    let q = like-head t b p v h in
+    let d = and-both (between 48 57 t) (allIn 48 57 (take n p)) e in
+    and-make (between 48 57 b) (allIn 48 57 (take n v)) (sym (cond-true (between 48 57 t) (between 48 57 b) _ (d .0)) ∙ q .0) (like-front n p v (q .1) (d .1))
+
+pub like-digits : (at n : ℕ) (p v : List ℕ) → likeRun p v ≡ length v → allIn 48 57 (part at n p) ≡ true → allIn 48 57 (part at n v) ≡ true
+like-digits at n p v h e = like-front n (drop at p) (drop at v) (like-drop at p v h) e
+
+pub like-append : (p v w : List ℕ) → likeRun p v ≡ length v → likeRun p (v ++ w) ≡ length v + likeRun (drop (length v) p) w
+like-append p [] w h = sym (zero-add (likeRun p w))
+like-append [] (b ∷ v) w h = absurd (omega arith)
+like-append (t ∷ p) (b ∷ v) w h =
+    let q = like-head t b p v h in
+    cond-true (likeByte t b) (suc (likeRun p (v ++ w))) 0 (q .0) ∙ omega (arith, like-append p v w (q .1))

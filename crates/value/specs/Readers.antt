@@ -1,16 +1,18 @@
 -- What the readers answer, and the paper's number for each answer: form (6) is judged before range (5).
-use Prim.Native.Nat.{ℕ}
+use Prim.Native.Nat.{ℕ, _+_, _≤_}
 use mathlib.Core.List.{List}
 use mathlib.Core.Option.{Option, none, some}
 use mathlib.Core.Bool.{Bool, cond}
 use lib.ListN.{length}
 use Rattle.octet.specs.Bytes.{between}
 use Rattle.text.specs.Decimal.{digits}
-use Rattle.value.specs.Value.{badNumber, badGraph, badPrice, priceIn, badTime, timeFits, isOneOf}
+use lib.Dec.{leb}
+use Rattle.value.specs.Value.{badNumber, badGraph, wholes, pointed, decimals, badPrice, priceIn, badTime, timeFits, isOneOf}
 use Rattle.value.specs.declared.Number.{Number}
 use Rattle.value.specs.declared.Number.the-variants as number
 use Rattle.value.specs.declared.Price.{Price}
 use Rattle.value.specs.declared.Price.the-variants as price
+use Rattle.value.specs.declared.Front.{Front}
 use Rattle.value.specs.declared.Check.{Check}
 use Rattle.value.specs.declared.Check.the-variants.{Good, BadForm, OutOfRange}
 
@@ -44,6 +46,25 @@ priced v none = price.Value (priceIn v)
 
 unfoldable pub numberRead : ℕ → ℕ → List ℕ → Number
 numberRead low high v = numbered v (badNumber v) (between low high (digits v))
+
+-- a number that was read is in its range, and of nine digits at most
+abbrev pub NumberFits : ℕ → ℕ → Number → Type 0
+NumberFits low high (number.Value n) = (low ≤ n) × (n ≤ high) × (n ≤ 999999999)
+NumberFits low high (number.BadForm at) = Unit
+NumberFits low high number.OutOfRange = Unit
+
+-- how far a value is like a price, whether it is complete there, and the price of what is like one
+unfoldable pub priceFront : List ℕ → Front
+priceFront v = record {
+  good = cond (pointed v) (wholes v + 1 + decimals v) (wholes v);
+  complete = cond (pointed v) (leb 1 (decimals v)) (leb 1 (wholes v));
+  price = priceIn v;
+}
+
+-- a price that was read has seven digits and four decimals at most
+abbrev pub PriceFits : Price → Type 0
+PriceFits (price.Value p) = p ≤ 99999999999
+PriceFits (price.BadForm at) = Unit
 
 unfoldable pub priceRead : List ℕ → Price
 priceRead v = priced v (badPrice v)

@@ -31,8 +31,12 @@ badGraph v = wellFormed v (runIn 33 126 v) true
 abbrev pub wholes : List ℕ → ℕ
 wholes v = min 7 (digitRun v)
 
+-- a point after n digits, of which there is one at least
+abbrev pub pointAt : ℕ → List ℕ → Bool
+pointAt n v = leb 1 n && eqb (getD v n 0) 46
+
 abbrev pub pointed : List ℕ → Bool
-pointed v = leb 1 (wholes v) && eqb (getD v (wholes v) 0) 46
+pointed v = pointAt (wholes v) v
 
 abbrev pub decimals : List ℕ → ℕ
 decimals v = min 4 (digitRun (drop (wholes v + 1) v))

@@ -1,10 +1,12 @@
 // Readers of a field's value. Form is judged before range; a bad form says how much of the value was well formed.
 ghost use mathlib.Core.Path.{_≡_};
 ghost use mathlib.Core.Option.{none};
-ghost use Prim.Native.Nat.{_≤_};
-ghost use Rattle.octet.specs.Bytes.{between};
-ghost use Rattle.value.specs.Value.{likeByte, likeRun, timePattern, timeLong, leap, daysIn, isDay, isClock, badTime, timeFits};
-ghost use Rattle.value.specs.Readers.{checked, graphChecked, textChecked, codeChecked, timeChecked};
+ghost use Prim.Native.Nat.{_-_, _^_, _≤_};
+ghost use lib.ListN.{getD};
+ghost use Rattle.octet.specs.Bytes.{between, part};
+ghost use Rattle.text.specs.Decimal.{digitsAtFront};
+ghost use Rattle.value.specs.Value.{numberOr, pointAt, priceIn, likeByte, likeRun, timePattern, timeLong, badTime, leap, daysIn, isDay, isClock, timeFits};
+ghost use Rattle.value.specs.Readers.{checked, numberRead, NumberFits, priceFront, priceRead, PriceFits, graphChecked, textChecked, codeChecked, timeChecked};
 
 pub enum Number {
     Value(u32),
@@ -22,6 +24,125 @@ pub enum Check {
     Good,
     BadForm(usize),
     OutOfRange,
+}
+
+// "Numbers have digits only, 1 to 9".
+const NUMBER_DIGITS: usize = 9;
+
+pub fn read_number(v: &[u8], low: u32, high: u32) -> Number
+    ensures { λ r. ⌜ r ≡ numberRead low high (now (v .entry)) ⌝ }
+    ensures { λ r. ⌜ NumberFits low high r ⌝ }
+{
+    let front = text::read_digits(v, NUMBER_DIGITS);
+    let good = front.len;
+    if good != v.len() {
+        return Number::BadForm(good);
+    }
+    if good < 1 {
+        return Number::BadForm(good);
+    }
+    let n = front.value;
+    if n < low {
+        return Number::OutOfRange;
+    }
+    if high < n {
+        return Number::OutOfRange;
+    }
+    Number::Value(n)
+}
+
+// The number of a value that is known to be one.
+pub fn number_of(v: &[u8]) -> u32
+    ensures { λ r. ⌜ r ≡ numberOr (now (v .entry)) ⌝ }
+    ensures { λ r. ⌜ r ≤ 999999999 ⌝ }
+{
+    let front = text::read_digits(v, NUMBER_DIGITS);
+    front.value
+}
+
+// "A price is 1 to 7 digits, or those, a point and 1 to 4 digits".
+const WHOLE_DIGITS: usize = 7;
+
+const DECIMALS: usize = 4;
+
+// "kept in ten-thousandths": of these, one whole.
+const WHOLE: u64 = 10000;
+
+// How far a value is like a price, whether it is complete there, and the price of what is like one.
+struct Front {
+    good: usize,
+    complete: bool,
+    price: u64,
+}
+
+// What one in the last of n decimals is.
+fn scale(n: usize) -> u64
+    ensures { λ r. ⌜ r ≡ 10 ^ (4 - n) ⌝ }
+{
+    match n {
+        0 => WHOLE,
+        1 => 1000,
+        2 => 100,
+        3 => 10,
+        _ => 1,
+    }
+}
+
+// Whether a point stands after so many digits.
+fn is_point(v: &[u8], wholes: usize) -> bool
+    ensures { λ r. ⌜ r ≡ pointAt wholes (now (v .entry)) ⌝ }
+{
+    if wholes < 1 {
+        return false;
+    }
+    octet::byte_at(v, wholes) == b'.'
+}
+
+fn price_at_front(v: &[u8]) -> Front
+    ensures { λ r. ⌜ r ≡ priceFront (now (v .entry)) ⌝ }
+{
+    let whole = text::read_digits(v, WHOLE_DIGITS);
+    let wholes = whole.len;
+    let price = (whole.value as u64) * WHOLE;
+    if !is_point(v, wholes) {
+        return Front {
+            good: wholes,
+            complete: 1 <= wholes,
+            price,
+        };
+    }
+    let after = wholes + 1;
+    let rest = text::read_digits(&v[after..], DECIMALS);
+    let decimals = rest.len;
+    Front {
+        good: after + decimals,
+        complete: 1 <= decimals,
+        price: price + (rest.value as u64) * scale(decimals),
+    }
+}
+
+pub fn read_price(v: &[u8]) -> Price
+    ensures { λ r. ⌜ r ≡ priceRead (now (v .entry)) ⌝ }
+    ensures { λ r. ⌜ PriceFits r ⌝ }
+{
+    let front = price_at_front(v);
+    let good = front.good;
+    if good != v.len() {
+        return Price::BadForm(good);
+    }
+    if !front.complete {
+        return Price::BadForm(good);
+    }
+    Price::Value(front.price)
+}
+
+// The price of a value that is known to be one.
+pub fn price_of(v: &[u8]) -> u64
+    ensures { λ r. ⌜ r ≡ priceIn (now (v .entry)) ⌝ }
+    ensures { λ r. ⌜ r ≤ 99999999999 ⌝ }
+{
+    let front = price_at_front(v);
+    front.price
 }
 
 // Whether a length is in range.
@@ -172,4 +293,40 @@ fn is_time_long(n: usize) -> bool
         return true;
     }
     n == 21
+}
+
+// The number of the n digits at a place.
+fn number_on(v: &[u8], at: usize, n: usize) -> u32
+    ensures { λ r. ⌜ r ≡ digitsAtFront n (part at n (now (v .entry))) .value ⌝ }
+{
+    let front = text::read_digits(octet::part(v, at, n), n);
+    front.value
+}
+
+// Whether the day and the clock of a well-formed time are in range.
+fn time_fits(v: &[u8]) -> bool
+    requires { ⌜ badTime (now v) ≡ none ⌝ }
+    ensures { λ r. ⌜ r ≡ timeFits (now (v .entry)) ⌝ }
+{
+    if !is_day(number_on(v, 0, 4), number_on(v, 4, 2), number_on(v, 6, 2)) {
+        return false;
+    }
+    is_clock(number_on(v, 9, 2), number_on(v, 12, 2), number_on(v, 15, 2))
+}
+
+// "Failing length, digits or marks is 6; a number out of range, 5".
+pub fn read_time(v: &[u8]) -> Check
+    ensures { λ r. ⌜ r ≡ timeChecked (now (v .entry)) ⌝ }
+{
+    let good = like_time(v);
+    if good != v.len() {
+        return Check::BadForm(good);
+    }
+    if !is_time_long(good) {
+        return Check::BadForm(good);
+    }
+    if !time_fits(v) {
+        return Check::OutOfRange;
+    }
+    Check::Good
 }

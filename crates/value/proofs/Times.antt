@@ -1,0 +1,128 @@
+-- UTC times: what reading makes of form and range, what it means that a time was read, and a time that gets .000.
+--     time-good     what it means that a time was read
+--     time-read     a time is read
+--     time-filled     a time of 17 bytes with .000 after it is a time
+use mathlib.Core.Path.{_≡_, refl, sym, ap, _∙_, subst}
+use mathlib.Core.Logic.{_⊎_, ⊎-elim, inl, inr}
+use mathlib.Core.List.{List, _++_, append-nil}
+use mathlib.Core.Option.{Option, none, some}
+use mathlib.Core.Bool.{Bool, true, false, cond, _&&_, _||_}
+use Prim.Native.Nat.{ℕ, _+_, _≤_, min}
+use native.Mathlib.Omega.{arith}
+use lib.ListN.{length, length-append, length-take, drop}
+use lib.Dec.{eqb}
+use borrow.Author.Tests.{eqb-true}
+use Rattle.octet.specs.Bytes.{bytesOf, allIn, part}
+use Rattle.octet.specs.Maybe.{isNone}
+use Rattle.octet.proofs.Cases.{cond-true, cond-false, and-both, and-make, or-cases, and-no-left}
+use Rattle.octet.proofs.Lists.{part-first}
+use Rattle.text.specs.Decimal.{digits, digitsAtFront}
+use Rattle.text.specs.declared.Digits.{Digits}
+use Rattle.text.proofs.ReadLaws.{front-digits}
+use Rattle.value.specs.Value.{wellFormed, likeRun, timePattern, timeLong, badTime, isDay, isClock, numberOn, timeFits, isTime}
+use Rattle.value.specs.Readers.{checked, timeChecked}
+use Rattle.value.specs.declared.Check.{Check}
+use Rattle.value.specs.declared.Check.the-variants.{Good, BadForm, OutOfRange}
+use Rattle.value.proofs.Forms.{form-short, form-part, form-well, form-good, checked-good}
+use Rattle.value.proofs.Like.{like-digits, like-append}
+
+-- ---- form, and then range
+module _ (v : List ℕ) (good : ℕ) (e : good ≡ likeRun timePattern v) where
+  by-run : badTime v ≡ wellFormed v good (timeLong (length v))
+  unfolding badTime
+  by-run = ap (λ (n : ℕ). wellFormed v n (timeLong (length v))) (sym e)
+
+  pub time-short : (good ≡ length v → ⊥) → BadForm good ≡ timeChecked v
+  unfolding timeChecked
+  time-short h = sym (ap (λ (o : Option ℕ). checked o (timeFits v)) (by-run ∙ form-short v good (timeLong (length v)) h))
+
+  module _ (g : good ≡ length v) where
+    pub time-long : timeLong good ≡ false → BadForm good ≡ timeChecked v
+    unfolding timeChecked
+    time-long h =
+        sym (ap (λ (o : Option ℕ). checked o (timeFits v)) (by-run ∙ form-part v good (timeLong (length v)) (ap timeLong (sym g) ∙ h)))
+
+    pub time-formed : timeLong good ≡ true → badTime v ≡ none
+    time-formed h = by-run ∙ form-well v good (timeLong (length v)) g (ap timeLong (sym g) ∙ h)
+
+pub time-ranged : (v : List ℕ) → badTime v ≡ none → timeChecked v ≡ cond (timeFits v) Good OutOfRange
+unfolding timeChecked
+time-ranged v e = ap (λ (o : Option ℕ). checked o (timeFits v)) e
+
+-- ---- where a value is formed as a time, the digits at a place are read whole
+pub number-at : (at n : ℕ) (v : List ℕ) → badTime v ≡ none → n ≤ 9 → allIn 48 57 (part at n timePattern) ≡ true
+    → digitsAtFront n (part at n v) .value ≡ numberOn at n v
+unfolding badTime
+number-at at n v e l h =
+    let s = part at n v in
+    let g = form-good v (likeRun timePattern v) (timeLong (length v)) e .0 in
+    let m : length s ≤ n = rw (length-take n (drop at v)) (omega arith) in
+    ap (λ (x : List ℕ). digitsAtFront n x .value) (sym (append-nil s))
+    ∙ ap (λ (d : Digits). d .value) (front-digits n s _ (like-digits at n timePattern v g h) refl m (omega arith))
+
+-- the day and the clock of what was read at their places
+module _ (v : List ℕ) (e : badTime v ≡ none) where
+  pub day-read : (y m d : ℕ) → y ≡ digitsAtFront 4 (part 0 4 v) .value → m ≡ digitsAtFront 2 (part 4 2 v) .value → d ≡ digitsAtFront 2 (part 6 2 v) .value
+      → isDay y m d ≡ isDay (numberOn 0 4 v) (numberOn 4 2 v) (numberOn 6 2 v)
+  day-read y m d p q r =
+      rw (p ∙ number-at 0 4 v e (omega arith) refl, q ∙ number-at 4 2 v e (omega arith) refl, r ∙ number-at 6 2 v e (omega arith) refl)
+
+  pub clock-read : (h m s : ℕ) → h ≡ digitsAtFront 2 (part 9 2 v) .value → m ≡ digitsAtFront 2 (part 12 2 v) .value → s ≡ digitsAtFront 2 (part 15 2 v) .value
+      → isClock h m s ≡ isClock (numberOn 9 2 v) (numberOn 12 2 v) (numberOn 15 2 v)
+  clock-read h m s p q r =
+      rw (p ∙ number-at 9 2 v e (omega arith) refl, q ∙ number-at 12 2 v e (omega arith) refl, r ∙ number-at 15 2 v e (omega arith) refl)
+
+-- ---- what it means that a time was read
+pub time-lengths : (v : List ℕ) → badTime v ≡ none → (length v ≡ 17) ⊎ (length v ≡ 21)
+unfolding badTime
+time-lengths v e =
+    ⊎-elim (λ p. inl (eqb-true (length v) 17 p)) (λ p. inr (eqb-true (length v) 21 p))
+    (or-cases (eqb (length v) 17) (eqb (length v) 21) (form-good v (likeRun timePattern v) (timeLong (length v)) e .1))
+
+pub record TimeGood (v : List ℕ) : Type 0 where
+  pub formed : badTime v ≡ none
+  pub fits : timeFits v ≡ true
+  pub time : isTime v ≡ true
+  pub lengths : (length v ≡ 17) ⊎ (length v ≡ 21)
+
+of-parts : (v : List ℕ) → badTime v ≡ none → timeFits v ≡ true → isTime v ≡ true
+of-parts v e f = and-make (isNone (badTime v)) (timeFits v) (ap isNone e) f
+
+pub time-good : (v : List ℕ) → timeChecked v ≡ Good → TimeGood v
+unfolding timeChecked
+time-good v e =
+    let p = checked-good (badTime v) (timeFits v) e in
+    record { formed = p .0; fits = p .1; time = of-parts v (p .0) (p .1); lengths = time-lengths v (p .0) }
+
+none-is : (o : Option ℕ) → isNone o ≡ true → o ≡ none
+none-is none e = refl
+none-is (some at) e = absurd (let z : _≡_ {A = ℕ} 0 1 = cc in omega arith)
+
+pub time-is : (v : List ℕ) → isTime v ≡ true → TimeGood v
+time-is v e =
+    let p = and-both (isNone (badTime v)) (timeFits v) e in
+    let f = none-is (badTime v) (p .0) in
+    record { formed = f; fits = p .1; time = e; lengths = time-lengths v f }
+
+pub time-read : (v : List ℕ) → isTime v ≡ true → timeChecked v ≡ Good
+time-read v e = let t = time-is v e in time-ranged v (t .formed) ∙ cond-true (timeFits v) Good OutOfRange (t .fits)
+
+-- ---- "one of 17 bytes gets .000"
+module _ (t w : List ℕ) (l : length t ≡ 17) where
+  number-first : (at n : ℕ) → at + n ≤ 17 → numberOn at n (t ++ w) ≡ numberOn at n t
+  number-first at n h = ap digits (part-first at n t w (omega arith))
+
+  fits-first : timeFits (t ++ w) ≡ timeFits t
+  unfolding timeFits
+  fits-first =
+      rw (number-first 0 4 (omega arith), number-first 4 2 (omega arith), number-first 6 2 (omega arith), number-first 9 2 (omega arith), number-first 12 2 (omega arith), number-first 15 2 (omega arith))
+
+pub time-filled : (t : List ℕ) → isTime t ≡ true → length t ≡ 17 → isTime (t ++ bytesOf ".000") ≡ true
+unfolding badTime
+time-filled t e l =
+    let w = bytesOf ".000" in
+    let g = form-good t (likeRun timePattern t) (timeLong (length t)) (time-is t e .formed) .0 in
+    let n : length (t ++ w) ≡ 21 = length-append t w ∙ ap (λ (k : ℕ). k + 4) l in
+    let r : likeRun timePattern (t ++ w) ≡ 21 = like-append timePattern t w g ∙ rw l in
+    of-parts (t ++ w) (form-well (t ++ w) (likeRun timePattern (t ++ w)) (timeLong (length (t ++ w))) (r ∙ sym n) (ap timeLong n))
+    (fits-first t w l ∙ time-is t e .fits)
