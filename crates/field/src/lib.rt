@@ -1,8 +1,373 @@
-// The fields of a message's body.
+// The fields of a message's body: "a tag of 1 to 5 digits not starting with 0, `=`, a value of at least one byte, `|`".
+// The pieces between `|`s are walked one by one, and one pass keeps an index of the tags that the session and the tables ask for.
+use octet::byte_at;
+use octet::part;
+use octet::until;
+use text::read_digits;
+ghost use mathlib.Core.Path.{_≡_};
+ghost use Prim.Native.Nat.{_+_, _≤_, min};
+ghost use lib.ListN.{length};
+ghost use Rattle.octet.specs.Bytes.{part};
+ghost use Rattle.field.specs.Pieces.{piecesOf, isTwice, textAt, scanOf, andThen};
+ghost use Rattle.field.specs.Stands.{pieceAt, stepOf, placeOf, faultOf, hits};
+ghost use Rattle.field.specs.Index.{slotOf, countOf, indexOf, valueIn, countIn, slots, notedAt, noted};
 
 // The first fault of the pieces of a body: none, a piece that is no field, or a field without a value, by its tag.
 pub enum Scan {
     Sound,
     Malformed,
     Empty(u32),
+}
+
+// Where a value stands.
+pub enum Place {
+    At { start: usize, len: usize },
+    Missing,
+}
+
+// A piece: a field, by its tag and where its value stands, or none.
+pub enum Piece {
+    Field { tag: u32, start: usize, len: usize },
+    Stray,
+}
+
+// A piece, and where the next one begins.
+pub struct Step {
+    pub piece: Piece,
+    pub next: usize,
+}
+
+// The index keeps so many tags.
+pub const TAGS: usize = 29;
+
+// Of each listed tag where the value of its first field stands (0 and 0 where there is none) and how often the tag stands
+// (2 for more than once), and the first fault of all pieces.
+pub struct Index {
+    pub start: [usize; TAGS],
+    pub len: [usize; TAGS],
+    pub count: [u8; TAGS],
+    pub scan: Scan,
+}
+
+// `|`
+const MARK: u8 = 1;
+
+// A tag has so many digits at most.
+const TAG_DIGITS: usize = 5;
+
+// The piece of n bytes at place `at`. One digit more than a tag may have is read, so that a longer run is seen.
+fn piece_at(body: &[u8], at: usize, n: usize) -> Piece
+    requires { ⌜ at + n ≤ length (now body) ⌝ }
+    ensures { λ r. ⌜ r ≡ pieceAt at (part at n (now (body .entry))) ⌝ }
+{
+    let end = at + n;
+    let piece = &body[at..end];
+    let digits = read_digits(piece, TAG_DIGITS + 1);
+    let run = digits.len;
+    if run == 0 {
+        return Piece::Stray;
+    }
+    if TAG_DIGITS < run {
+        return Piece::Stray;
+    }
+    if piece[0] == b'0' {
+        return Piece::Stray;
+    }
+    if byte_at(piece, run) != b'=' {
+        return Piece::Stray;
+    }
+    let skip = run + 1;
+    Piece::Field {
+        tag: digits.value,
+        start: at + skip,
+        len: n - skip,
+    }
+}
+
+// The place after the `|` at `end`, or the end of the body.
+fn after(end: usize, size: usize) -> usize
+    ensures { λ r. ⌜ r ≡ min (end + 1) size ⌝ }
+{
+    if end < size { end + 1 } else { size }
+}
+
+// The piece that begins at `at`, and where the next one does.
+fn step_from(body: &[u8], at: usize) -> Step
+    requires { ⌜ at ≤ length (now body) ⌝ }
+    ensures { λ r. ⌜ r ≡ stepOf at (now (body .entry)) ⌝ }
+{
+    let rest = &body[at..];
+    let n = until(rest, MARK);
+    Step {
+        piece: piece_at(body, at, n),
+        next: after(at + n, body.len()),
+    }
+}
+
+// A listed tag's slot, and TAGS for a tag that is not listed.
+fn slot_of(tag: u32) -> usize
+    ensures { λ r. ⌜ r ≡ slotOf tag ⌝ }
+{
+    match tag {
+        34 => 0,
+        49 => 1,
+        56 => 2,
+        43 => 3,
+        52 => 4,
+        97 => 5,
+        98 => 6,
+        108 => 7,
+        141 => 8,
+        112 => 9,
+        7 => 10,
+        16 => 11,
+        123 => 12,
+        36 => 13,
+        17 => 14,
+        37 => 15,
+        20 => 16,
+        55 => 17,
+        54 => 18,
+        38 => 19,
+        32 => 20,
+        31 => 21,
+        14 => 22,
+        151 => 23,
+        150 => 24,
+        39 => 25,
+        60 => 26,
+        442 => 27,
+        35 => 28,
+        _ => TAGS,
+    }
+}
+
+// The fault of a piece: "First malformed field: Reject 0; without a value: Reject 4 with its tag".
+fn fault_of(piece: Piece) -> Scan
+    ensures { λ r. ⌜ r ≡ faultOf piece ⌝ }
+{
+    match piece {
+        Piece::Stray => Scan::Malformed,
+        Piece::Field { tag, start: _, len } => {
+            if len == 0 {
+                Scan::Empty(tag)
+            } else {
+                Scan::Sound
+            }
+        }
+    }
+}
+
+// The first of two faults.
+fn and_then(sooner: Scan, later: Scan) -> Scan
+    ensures { λ r. ⌜ r ≡ andThen sooner later ⌝ }
+{
+    match sooner {
+        Scan::Sound => later,
+        Scan::Malformed => Scan::Malformed,
+        Scan::Empty(tag) => Scan::Empty(tag),
+    }
+}
+
+// One field more of slot k, if k is one: the first is kept, a second and a third are counted as 2.
+fn note_at(
+    start: &mut [usize; TAGS],
+    len: &mut [usize; TAGS],
+    count: &mut [u8; TAGS],
+    k: usize,
+    s: usize,
+    n: usize,
+)
+    ensures { λ r. ⌜
+        slots (now (start .exit)) (now (len .exit)) (now (count .exit))
+        ≡ notedAt (slots (now (start .entry)) (now (len .entry)) (now (count .entry))) k s n
+        ⌝ }
+{
+    if k < TAGS {
+        if count[k] == 0 {
+            start[k] = s;
+            len[k] = n;
+            count[k] = 1;
+        } else {
+            count[k] = 2;
+        }
+    }
+}
+
+// The same of a piece.
+fn note(start: &mut [usize; TAGS], len: &mut [usize; TAGS], count: &mut [u8; TAGS], piece: Piece)
+    ensures { λ r. ⌜
+        slots (now (start .exit)) (now (len .exit)) (now (count .exit))
+        ≡ noted (slots (now (start .entry)) (now (len .entry)) (now (count .entry))) piece
+        ⌝ }
+{
+    match piece {
+        Piece::Field {
+            tag,
+            start: s,
+            len: n,
+        } => {
+            let k = slot_of(tag);
+            note_at(start, len, count, k, s, n);
+        }
+        Piece::Stray => {}
+    }
+}
+
+// The index of a body, in one pass from piece to piece.
+pub fn indexed(body: &[u8]) -> Index
+    ensures { λ r. ⌜ r ≡ indexOf (now (body .entry)) ⌝ }
+{
+    let mut start = [0usize; TAGS];
+    let mut len = [0usize; TAGS];
+    let mut count = [0u8; TAGS];
+    let mut scan = Scan::Sound;
+    let mut i = 0;
+    while i < body.len() {
+        let here = step_from(body, i);
+        let piece = here.piece;
+        let fault = fault_of(piece);
+        scan = and_then(scan, fault);
+        note(&mut start, &mut len, &mut count, piece);
+        i = here.next;
+    }
+    Index {
+        start,
+        len,
+        count,
+        scan,
+    }
+}
+
+// Where the value of the first field of a tag stands.
+pub fn first(body: &[u8], tag: u32) -> Place
+    ensures { λ r. ⌜ r ≡ placeOf tag (now (body .entry)) ⌝ }
+{
+    let mut i = 0;
+    while i < body.len() {
+        let here = step_from(body, i);
+        let piece = here.piece;
+        match piece {
+            Piece::Field {
+                tag: found,
+                start,
+                len,
+            } => {
+                if found == tag {
+                    return Place::At { start, len };
+                }
+            }
+            Piece::Stray => {}
+        }
+        i = here.next;
+    }
+    Place::Missing
+}
+
+// A count with a piece more, which counts where it is of that tag. It stops at 2.
+fn counted(n: u8, piece: Piece, tag: u32) -> u8
+    requires { ⌜ n ≤ 2 ⌝ }
+    ensures { λ r. ⌜ r ≡ min 2 (n + hits tag piece) ⌝ }
+{
+    match piece {
+        Piece::Stray => n,
+        Piece::Field {
+            tag: found,
+            start: _,
+            len: _,
+        } => {
+            if found != tag {
+                return n;
+            }
+            if n == 0 { 1 } else { 2 }
+        }
+    }
+}
+
+// How often a tag stands, 2 for more than once.
+pub fn count(body: &[u8], tag: u32) -> u8
+    ensures { λ r. ⌜ r ≡ countOf tag (piecesOf (now (body .entry))) ⌝ }
+{
+    let mut n: u8 = 0;
+    let mut i = 0;
+    while i < body.len() {
+        let here = step_from(body, i);
+        let piece = here.piece;
+        n = counted(n, piece, tag);
+        i = here.next;
+    }
+    n
+}
+
+// Whether a tag stands more than once.
+pub fn twice(body: &[u8], tag: u32) -> bool
+    ensures { λ r. ⌜ r ≡ isTwice tag (piecesOf (now (body .entry))) ⌝ }
+{
+    1 < count(body, tag)
+}
+
+// The first fault of the pieces: the scan of step 5 by itself.
+pub fn scan_fields(body: &[u8]) -> Scan
+    ensures { λ r. ⌜ r ≡ scanOf (piecesOf (now (body .entry))) ⌝ }
+{
+    let mut scan = Scan::Sound;
+    let mut i = 0;
+    while i < body.len() {
+        let here = step_from(body, i);
+        let piece = here.piece;
+        let fault = fault_of(piece);
+        scan = and_then(scan, fault);
+        i = here.next;
+    }
+    scan
+}
+
+// The value of the first field of a tag, nothing where there is none: by the body itself.
+fn value_of(body: &[u8], tag: u32) -> &[u8]
+    ensures { λ r. ⌜ now r ≡ textAt tag (piecesOf (now (body .entry))) ⌝ }
+{
+    match first(body, tag) {
+        Place::At { start, len } => part(body, start, len),
+        Place::Missing => &body[..0],
+    }
+}
+
+// The same by the lists of the body's index; of a tag that is not listed, by the body.
+pub fn value_at<'a, 'b>(
+    body: &'a [u8],
+    start: &'b [usize; TAGS],
+    len: &'b [usize; TAGS],
+    tag: u32,
+) -> &'a [u8]
+    ensures { λ r. ⌜ now r ≡ valueIn (now (body .entry)) (now (start .entry)) (now (len .entry)) tag ⌝ }
+{
+    let k = slot_of(tag);
+    if k < TAGS {
+        return part(body, start[k], len[k]);
+    }
+    value_of(body, tag)
+}
+
+// How often a tag stands, 2 for more than once, the same way.
+pub fn count_at(body: &[u8], counts: &[u8; TAGS], tag: u32) -> u8
+    ensures { λ r. ⌜ r ≡ countIn (now (body .entry)) (now (counts .entry)) tag ⌝ }
+{
+    let k = slot_of(tag);
+    if k < TAGS {
+        return counts[k];
+    }
+    count(body, tag)
+}
+
+// Both by the whole index.
+pub fn value_in(body: &[u8], ix: Index, tag: u32) -> &[u8]
+    ensures { λ r. ⌜ now r ≡ valueIn (now (body .entry)) (ix .start) (ix .len) tag ⌝ }
+{
+    value_at(body, &ix.start, &ix.len, tag)
+}
+
+pub fn count_in(body: &[u8], ix: Index, tag: u32) -> u8
+    ensures { λ r. ⌜ r ≡ countIn (now (body .entry)) (ix .count) tag ⌝ }
+{
+    count_at(body, &ix.count, tag)
 }

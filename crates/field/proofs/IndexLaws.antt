@@ -1,0 +1,308 @@
+-- One pass fills the index, and the index says of every tag what the pieces of the body say.
+--     filled     the lists that the pass fills are those of the definition
+--     value-law, count-law, scan-law     lookups by the index of a body are the definitions on its pieces, for every tag
+--     twice-law, missing-law     what a count says
+use mathlib.Core.Path.{_≡_, refl, ap, sym, _∙_}
+use mathlib.Core.Bool.{Bool, true, false, cond, not, _&&_}
+use mathlib.Core.List.{List, [], _∷_, map}
+use mathlib.Core.Option.{Option, none, some}
+use Prim.Native.Nat.{ℕ, zero, suc, _+_, _≤_, _<_, min}
+use native.Mathlib.Omega.{arith}
+use native.Mathlib.Nat.{zero-add}
+use lib.ListN.{length, getD, set, replicate, length-set, length-map, length-replicate, getD-replicate}
+use lib.Seq.{getD-set-same, getD-set-other, ext-getD}
+use lib.Dec.{eqb, ltb}
+use borrow.Author.Tests.{eqb-true, eqb-false, ltb-true, lt-ltb, eq-eqb, ne-eqb, not-true}
+use Rattle.octet.specs.Bytes.{part}
+use Rattle.octet.specs.Maybe.{isNone, first}
+use Rattle.octet.proofs.Cases.{and-both}
+use Rattle.field.specs.Pieces.{Pieces, piecesOf, valuesOf, firstOf, isTwice, textAt, scanOf}
+use Rattle.field.specs.Stands.{located, orHere, placeFrom, placeOf, hits}
+use Rattle.field.specs.Index.{listed, slotCount, position, slotOf, startIn, lenIn, countOf, indexOf, valueIn, countIn, Slots, slots, notedAt, noted}
+use Rattle.field.specs.declared.Place.{Place}
+use Rattle.field.specs.declared.Place.the-variants.{At, Missing}
+use Rattle.field.specs.declared.Piece.{Piece}
+use Rattle.field.specs.declared.Piece.the-variants.{Field, Stray}
+use Rattle.field.specs.declared.Index.{Index}
+use Rattle.field.specs.declared.Scan.{Scan}
+use Rattle.field.proofs.Cuts.{hitsIn, count-at, partBy, value-at}
+
+-- ---- each listed tag has a slot of its own
+
+at-step : (t u p : ℕ) (ts : List ℕ) (b : Bool) → eqb u t ≡ b → (p < length ts → getD ts p 0 ≡ u)
+    → cond b 0 (suc p) < suc (length ts) → getD (t ∷ ts) (cond b 0 (suc p)) 0 ≡ u
+at-step t u p ts true e ih h = sym (eqb-true u t e)
+at-step t u p ts false e ih h = ih (omega arith)
+
+-- what stands at a number's position is that number
+at-position : (ts : List ℕ) (u : ℕ) → position ts u < length ts → getD ts (position ts u) 0 ≡ u
+unfolding position
+at-position [] u h = omega arith
+at-position (t ∷ ts) u h = at-step t u (position ts u) ts (eqb u t) refl (at-position ts u) h
+
+abbrev absent : ℕ → List ℕ → Bool
+absent t [] = true
+absent t (u ∷ us) = not (eqb u t) && absent t us
+
+abbrev distinct : List ℕ → Bool
+distinct [] = true
+distinct (t ∷ ts) = absent t ts && distinct ts
+
+absent-at : (t : ℕ) (ts : List ℕ) (k : ℕ) → absent t ts ≡ true → k < length ts → eqb (getD ts k 0) t ≡ false
+absent-at t [] k e h = absurd (omega arith)
+absent-at t (u ∷ us) zero e h = not-true (eqb u t) (and-both (not (eqb u t)) (absent t us) e .0)
+absent-at t (u ∷ us) (suc k) e h = absent-at t us k (and-both (not (eqb u t)) (absent t us) e .1) (omega arith)
+
+-- in a list without repeats the position of what stands at k is k
+position-at : (ts : List ℕ) (k : ℕ) → distinct ts ≡ true → k < length ts → position ts (getD ts k 0) ≡ k
+unfolding position
+position-at [] k e h = absurd (omega arith)
+position-at (t ∷ ts) zero e h = rw (eq-eqb t t refl)
+position-at (t ∷ ts) (suc k) e h =
+    let d = and-both (absent t ts) (distinct ts) e in
+    rw (absent-at t ts k (d .0) (omega arith)) (ap suc (position-at ts k (d .1) (omega arith)))
+
+size : length listed ≡ slotCount
+unfolding listed
+size = refl
+
+no-repeats : distinct listed ≡ true
+unfolding listed
+no-repeats = refl
+
+slot-tag : (t : ℕ) → slotOf t < slotCount → getD listed (slotOf t) 0 ≡ t
+unfolding slotOf
+slot-tag t h = at-position listed t (omega (arith, size))
+
+slot-own : (t u : ℕ) → slotOf t < slotCount → slotOf t ≡ slotOf u → u ≡ t
+slot-own t u h e = sym (slot-tag u (omega arith)) ∙ ap (λ (k : ℕ). getD listed k 0) (sym e) ∙ slot-tag t h
+
+slot-at : (k : ℕ) → k < slotCount → slotOf (getD listed k 0) ≡ k
+unfolding slotOf
+slot-at k h = position-at listed k no-repeats (omega (arith, size))
+
+-- ---- a list by slots
+
+map-at : (f : ℕ → ℕ) (l : List ℕ) (k : ℕ) → k < length l → getD (map f l) k 0 ≡ f (getD l k 0)
+map-at f [] k h = absurd (omega arith)
+map-at f (x ∷ l) zero h = refl
+map-at f (x ∷ l) (suc k) h = map-at f l k (omega arith)
+
+by-slots : (f : ℕ → ℕ) (xs : List ℕ) → length xs ≡ slotCount → ((t : ℕ) → slotOf t < slotCount → getD xs (slotOf t) 0 ≡ f t) → xs ≡ map f listed
+by-slots f xs e h =
+    ext-getD 0 xs (map f listed) (e ∙ sym size ∙ sym (length-map listed f))
+    (λ k l. (let q = slot-at k (omega arith) in
+    ap (λ (j : ℕ). getD xs j 0) (sym q) ∙ h (getD listed k 0) (omega arith) ∙ sym (map-at f listed k (omega (arith, size)))))
+
+at-slot : (f : ℕ → ℕ) (t : ℕ) → slotOf t < slotCount → getD (map f listed) (slotOf t) 0 ≡ f t
+at-slot f t h = map-at f listed (slotOf t) (omega (arith, size)) ∙ ap f (slot-tag t h)
+
+-- ---- one slot: its first field is kept, a second and a third are counted as 2
+
+record Slot : Type 0 where
+  pub start : ℕ
+  pub len : ℕ
+  pub count : ℕ
+
+abbrev slot : ℕ → ℕ → ℕ → Slot
+slot s n c = record { start = s; len = n; count = c }
+
+abbrev slotIn : Slots → ℕ → Slot
+slotIn x k = slot (getD (x .start) k 0) (getD (x .len) k 0) (getD (x .count) k 0)
+
+abbrev more : Slot → ℕ → ℕ → Slot
+more z s n = cond (eqb (z .count) 0) (slot s n 1) (slot (z .start) (z .len) 2)
+
+abbrev marked : ℕ → Slot → Piece → Slot
+marked t z Stray = z
+marked t z (Field u s n) = cond (eqb u t) (more z s n) z
+
+abbrev markedBy : ℕ → Slot → List Piece → Slot
+markedBy t z [] = z
+markedBy t z (g ∷ gs) = markedBy t (marked t z g) gs
+
+module _ (t : ℕ) where
+  -- once there is a first field it stays
+  marked-more : (s n c : ℕ) (gs : List Piece) → markedBy t (slot s n (suc c)) gs ≡ slot s n (cond (eqb (hitsIn t gs) 0) (suc c) 2)
+  marked-more s n c [] = refl
+  marked-more s n c (Stray ∷ gs) = rw (zero-add (hitsIn t gs)) (marked-more s n c gs)
+  marked-more s n c (Field u a b ∷ gs) = rw (ne-eqb (suc c) 0 (λ z. omega arith)) (by (eqb u t) (marked-more s n 1 gs) (marked-more s n c gs))
+    where
+      by : (q : Bool) → markedBy t (slot s n 2) gs ≡ slot s n (cond (eqb (hitsIn t gs) 0) 2 2)
+          → markedBy t (slot s n (suc c)) gs ≡ slot s n (cond (eqb (hitsIn t gs) 0) (suc c) 2)
+          → markedBy t (cond q (slot s n 2) (slot s n (suc c))) gs ≡ slot s n (cond (eqb (cond q 1 0 + hitsIn t gs) 0) (suc c) 2)
+      by true i j = i ∙ either (eqb (hitsIn t gs) 0) ∙ rw (ne-eqb (1 + hitsIn t gs) 0 (λ z. omega arith))
+        where
+          either : (v : Bool) → slot s n (cond v 2 2) ≡ slot s n 2
+          either true = refl
+          either false = refl
+      by false i j = rw (zero-add (hitsIn t gs)) j
+
+  marked-all : (gs : List Piece) → markedBy t (slot 0 0 0) gs ≡ slot (startIn (placeFrom t gs)) (lenIn (placeFrom t gs)) (min 2 (hitsIn t gs))
+  unfolding placeFrom
+  marked-all [] = refl
+  marked-all (Stray ∷ gs) = rw (zero-add (hitsIn t gs)) (marked-all gs)
+  marked-all (Field u s n ∷ gs) = by (eqb u t) (marked-all gs)
+    where
+      count : (m : ℕ) → cond (eqb m 0) 1 2 ≡ min 2 (1 + m)
+      count zero = refl
+      count (suc m) = rw (ne-eqb (suc m) 0 (λ z. omega arith)) (omega arith)
+
+      by : (q : Bool) → markedBy t (slot 0 0 0) gs ≡ slot (startIn (placeFrom t gs)) (lenIn (placeFrom t gs)) (min 2 (hitsIn t gs))
+          → markedBy t (cond q (slot s n 1) (slot 0 0 0)) gs
+          ≡ slot (startIn (cond q (At s n) (placeFrom t gs))) (lenIn (cond q (At s n) (placeFrom t gs))) (min 2 (cond q 1 0 + hitsIn t gs))
+      by true i = marked-more s n 0 gs ∙ ap (slot s n) (count (hitsIn t gs))
+      by false i = rw (zero-add (hitsIn t gs)) i
+
+-- ---- the three lists keep their lengths, and a field goes to its tag's slot and to no other
+
+record Sized (x : Slots) : Type 0 where
+  pub starts : length (x .start) ≡ slotCount
+  pub lens : length (x .len) ≡ slotCount
+  pub counts : length (x .count) ≡ slotCount
+
+sized : (x : Slots) (g : Piece) → Sized x → Sized (noted x g)
+unfolding noted notedAt
+sized x Stray z = z
+sized x (Field u s n) z = by (ltb (slotOf u) slotCount) (eqb (getD (x .count) (slotOf u) 0) 0)
+  where
+    by : (p q : Bool)
+        → Sized (cond p (cond q (slots (set (x .start) (slotOf u) s) (set (x .len) (slotOf u) n) (set (x .count) (slotOf u) 1)) (slots (x .start) (x .len) (set (x .count) (slotOf u) 2))) x)
+    by true true =
+        record { starts = length-set (x .start) (slotOf u) s ∙ z .starts; lens = length-set (x .len) (slotOf u) n ∙ z .lens; counts = length-set (x .count) (slotOf u) 1 ∙ z .counts }
+    by true false = record { starts = z .starts; lens = z .lens; counts = length-set (x .count) (slotOf u) 2 ∙ z .counts }
+    by false q = z
+
+own : (x : Slots) (k s n : ℕ) → k < slotCount → Sized x → slotIn (notedAt x k s n) k ≡ more (slotIn x k) s n
+unfolding notedAt
+own x k s n h z = rw (lt-ltb k slotCount h) (by (eqb (getD (x .count) k 0) 0))
+  where
+    by : (q : Bool)
+        → slotIn (cond q (slots (set (x .start) k s) (set (x .len) k n) (set (x .count) k 1)) (slots (x .start) (x .len) (set (x .count) k 2))) k
+        ≡ cond q (slot s n 1) (slot (getD (x .start) k 0) (getD (x .len) k 0) 2)
+    by true =
+        rw (getD-set-same (x .start) k s 0 (omega (arith, z .starts)), getD-set-same (x .len) k n 0 (omega (arith, z .lens)), getD-set-same (x .count) k 1 0 (omega (arith, z .counts)))
+    by false = rw (getD-set-same (x .count) k 2 0 (omega (arith, z .counts)))
+
+other : (x : Slots) (j k s n : ℕ) → (k ≡ j → ⊥) → slotIn (notedAt x j s n) k ≡ slotIn x k
+unfolding notedAt
+other x j k s n d = by (ltb j slotCount) (eqb (getD (x .count) j 0) 0)
+  where
+    by : (p q : Bool)
+        → slotIn (cond p (cond q (slots (set (x .start) j s) (set (x .len) j n) (set (x .count) j 1)) (slots (x .start) (x .len) (set (x .count) j 2))) x) k ≡ slotIn x k
+    by true true = rw (getD-set-other (x .start) j k s 0 d, getD-set-other (x .len) j k n 0 d, getD-set-other (x .count) j k 1 0 d)
+    by true false = rw (getD-set-other (x .count) j k 2 0 d)
+    by false q = refl
+
+-- ---- the pass
+
+abbrev pub slotsFrom : Slots → List Piece → Slots
+slotsFrom x [] = x
+slotsFrom x (g ∷ gs) = slotsFrom (noted x g) gs
+
+abbrev pub noSlots : Slots
+noSlots = slots (replicate slotCount 0) (replicate slotCount 0) (replicate slotCount 0)
+
+sized-from : (x : Slots) (gs : List Piece) → Sized x → Sized (slotsFrom x gs)
+sized-from x [] z = z
+sized-from x (g ∷ gs) z = sized-from (noted x g) gs (sized x g z)
+
+zeros : Sized noSlots
+zeros = record { starts = length-replicate {A = ℕ} slotCount 0; lens = length-replicate {A = ℕ} slotCount 0; counts = length-replicate {A = ℕ} slotCount 0 }
+
+module _ (t : ℕ) (h : slotOf t < slotCount) where
+  noted-slot : (x : Slots) (g : Piece) → Sized x → slotIn (noted x g) (slotOf t) ≡ marked t (slotIn x (slotOf t)) g
+  unfolding noted
+  noted-slot x Stray z = refl
+  noted-slot x (Field u s n) z = by (eqb u t) refl
+    where
+      by : (q : Bool) → eqb u t ≡ q → slotIn (notedAt x (slotOf u) s n) (slotOf t) ≡ cond q (more (slotIn x (slotOf t)) s n) (slotIn x (slotOf t))
+      by true e = let q : u ≡ t = eqb-true u t e in ap (λ (v : ℕ). slotIn (notedAt x (slotOf v) s n) (slotOf t)) q ∙ own x (slotOf t) s n h z
+      by false e = other x (slotOf u) (slotOf t) s n (λ q. eqb-false u t e (slot-own t u h q))
+
+  slot-from : (x : Slots) (gs : List Piece) → Sized x → slotIn (slotsFrom x gs) (slotOf t) ≡ markedBy t (slotIn x (slotOf t)) gs
+  slot-from x [] z = refl
+  slot-from x (g ∷ gs) z = slot-from (noted x g) gs (sized x g z) ∙ ap (λ (y : Slot). markedBy t y gs) (noted-slot x g z)
+
+  slot-is : (gs : List Piece) → slotIn (slotsFrom noSlots gs) (slotOf t) ≡ slot (startIn (placeFrom t gs)) (lenIn (placeFrom t gs)) (min 2 (hitsIn t gs))
+  slot-is gs =
+      slot-from noSlots gs zeros
+      ∙ ap (λ (m : ℕ). markedBy t (slot m m m) gs) (getD-replicate slotCount (slotOf t) 0 0 h)
+      ∙ marked-all t gs
+
+slots-by : (x : Slots) (a b c : List ℕ) → x .start ≡ a → x .len ≡ b → x .count ≡ c → x ≡ slots a b c
+slots-by x a b c e f g = rw (← e, ← f, ← g)
+
+pub filled : (body : List ℕ) → slotsFrom noSlots (located 0 (piecesOf body)) ≡ slots (indexOf body .start) (indexOf body .len) (indexOf body .count)
+unfolding indexOf placeOf countOf
+filled body =
+    let gs = located 0 (piecesOf body) in
+    let x = slotsFrom noSlots gs in
+    let z = sized-from noSlots gs zeros in
+    slots-by x _ _ _
+    (by-slots (λ (t : ℕ). startIn (placeFrom t gs)) (x .start) (z .starts) (λ t h. ap (λ (y : Slot). y .start) (slot-is t h gs)))
+    (by-slots (λ (t : ℕ). lenIn (placeFrom t gs)) (x .len) (z .lens) (λ t h. ap (λ (y : Slot). y .len) (slot-is t h gs)))
+    (by-slots (λ (t : ℕ). min 2 (length (valuesOf t (piecesOf body)))) (x .count) (z .counts)
+    (λ t h. ap (λ (y : Slot). y .count) (slot-is t h gs) ∙ ap (min 2) (sym (count-at t 0 (piecesOf body)))))
+
+pub scan-law : (body : List ℕ) → indexOf body .scan ≡ scanOf (piecesOf body)
+unfolding indexOf
+scan-law body = refl
+
+-- what the pass leaves behind is the index
+pub index-is : (body start len count : List ℕ) (scan : Scan) → slotsFrom noSlots (located 0 (piecesOf body)) ≡ slots start len count → scanOf (piecesOf body) ≡ scan
+    → record { start = start; len = len; count = count; scan = scan } ≡ indexOf body
+index-is body start len count scan e f =
+    let g = sym e ∙ filled body in
+    let h : scan ≡ indexOf body .scan = sym f ∙ sym (scan-law body) in
+    ap (λ (x : Slots). made x scan) g ∙ ap (made (slots (indexOf body .start) (indexOf body .len) (indexOf body .count))) h
+  where
+    made : Slots → Scan → Index
+    made x q = record { start = x .start; len = x .len; count = x .count; scan = q }
+
+-- ---- lookups by the index of a body, for every tag
+
+part-place : (body : List ℕ) (p : Place) → part (startIn p) (lenIn p) body ≡ partBy body p
+part-place body Missing = refl
+part-place body (At s n) = refl
+
+-- what a count that stops at 2 says
+pub least-two : (n : ℕ) → ltb 1 (min 2 n) ≡ ltb 1 n
+least-two zero = refl
+least-two (suc zero) = refl
+least-two (suc (suc n)) = rw (lt-ltb 1 (min 2 (suc (suc n))) (omega arith), lt-ltb 1 (suc (suc n)) (omega arith))
+
+pub none-there : (vs : Pieces) → eqb (min 2 (length vs)) 0 ≡ isNone (first vs)
+none-there [] = refl
+none-there (v ∷ vs) = ne-eqb (min 2 (suc (length vs))) 0 (λ z. omega arith)
+
+module _ (body : List ℕ) (tag : ℕ) where
+  pub value-law : valueIn body (indexOf body .start) (indexOf body .len) tag ≡ textAt tag (piecesOf body)
+  unfolding valueIn indexOf
+  value-law = by (ltb (slotOf tag) slotCount) refl
+    where
+      by : (q : Bool) → ltb (slotOf tag) slotCount ≡ q
+          → cond q (part (getD (indexOf body .start) (slotOf tag) 0) (getD (indexOf body .len) (slotOf tag) 0) body) (textAt tag (piecesOf body)) ≡ textAt tag (piecesOf body)
+      by true e =
+          let h = ltb-true (slotOf tag) slotCount e in
+          rw (at-slot (λ (t : ℕ). startIn (placeOf t body)) tag h, at-slot (λ (t : ℕ). lenIn (placeOf t body)) tag h)
+          (part-place body (placeOf tag body) ∙ value-at tag body)
+      by false e = refl
+
+  counted : countIn body (indexOf body .count) tag ≡ countOf tag (piecesOf body)
+  unfolding countIn indexOf
+  counted = by (ltb (slotOf tag) slotCount) refl
+    where
+      by : (q : Bool) → ltb (slotOf tag) slotCount ≡ q → cond q (getD (indexOf body .count) (slotOf tag) 0) (countOf tag (piecesOf body)) ≡ countOf tag (piecesOf body)
+      by true e = at-slot (λ (t : ℕ). countOf t (piecesOf body)) tag (ltb-true (slotOf tag) slotCount e)
+      by false e = refl
+
+  pub count-law : countIn body (indexOf body .count) tag ≡ min 2 (length (valuesOf tag (piecesOf body)))
+  unfolding countOf
+  count-law = counted
+
+  pub twice-law : ltb 1 (countIn body (indexOf body .count) tag) ≡ isTwice tag (piecesOf body)
+  twice-law = ap (ltb 1) count-law ∙ least-two (length (valuesOf tag (piecesOf body)))
+
+  pub missing-law : eqb (countIn body (indexOf body .count) tag) 0 ≡ isNone (firstOf tag (piecesOf body))
+  missing-law = ap (λ (n : ℕ). eqb n 0) count-law ∙ none-there (valuesOf tag (piecesOf body))

@@ -1,0 +1,4 @@
+pub mod Cuts
+pub mod Heads
+pub mod IndexLaws
+pub mod Unique

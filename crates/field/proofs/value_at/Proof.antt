@@ -1,0 +1,27 @@
+use borrow.Author.Needs.{needs}
+use borrow.Author.Tests.{lt-ltb, le-ltb}
+use Rattle.field.specs.Index.{valueIn}
+use Rattle.field.proofs.value_at.Statement.{statement}
+use Rattle.field.proofs.value_at.Tie as tie
+
+returns : tie.Need-returns
+unfolding valueIn
+returns c = let q = c .before .before .before in rw (← q .before .slot-of .ensures, lt-ltb _ _ (q .if1 .taken)) (c .part .ensures)
+
+returns-2 : tie.Need-returns-2
+unfolding valueIn
+returns-2 c = rw (← c .before .before .slot-of .ensures, le-ltb _ _ (c .before .if1 .left)) (c .value-of .ensures)
+
+pub value-at-spec : {M : Type 1} → statement M
+value-at-spec =
+    tie.close
+    (tie.spec
+    (λ c κs. search needs)
+    (λ c. search needs)
+    (λ c. search needs)
+    (λ c. search needs)
+    (λ c. search needs)
+    (λ c κs. search needs)
+    returns
+    (λ c κs. search needs)
+    returns-2)
