@@ -3,6 +3,8 @@ use Prim.Native.Nat.{ℕ}
 use Prim.Native.String.{String}
 use mathlib.Core.List.{List, [], _∷_, _++_}
 use mathlib.Core.Bool.{Bool, true, false, cond, _||_}
+use lib.ListN.{length, getD}
+use lib.Dec.{ltb}
 use Rattle.octet.specs.Bytes.{is}
 use Rattle.field.specs.Pieces.{Pieces, typeIn}
 use Rattle.answer.specs.declared.Setup.{Setup}
@@ -13,6 +15,8 @@ use Rattle.table.specs.declared.Form.the-variants.{Number, Price, Time, 
 use Rattle.table.specs.declared.Range.{Range}
 use Rattle.table.specs.declared.Range.the-variants.{Of, Written, NoneOrFrom, Any}
 use Rattle.table.specs.declared.Row.{Row}
+use Rattle.table.specs.declared.Cell.{Cell}
+use Rattle.table.specs.declared.Cell.the-variants.{Here, End}
 
 abbrev pub needs : ℕ → Form → Range → Row
 needs tag form range = record { tag = tag; needed = true; form = form; range = range }
@@ -50,6 +54,14 @@ rowsOf kind.Unlisted = []
 
 abbrev pub tableOf : Setup → Kind → List Row
 tableOf setup k = headerRows ++ rowsOf k
+
+-- what stands past the end of a list of rows
+abbrev pub noRow : Row
+noRow = may 0 Number (Of 0 0)
+
+-- the row at a place of a list of rows, or that the list has ended
+abbrev pub cellOf : List Row → ℕ → Cell
+cellOf rows i = cond (ltb i (length rows)) (Here (getD rows i noRow)) End
 
 -- the types of the table
 unfoldable pub kindOf : Setup → List ℕ → Kind

@@ -3,12 +3,14 @@ use Prim.Native.Nat.{ℕ, _-_}
 use mathlib.Core.List.{List, [], _∷_}
 use mathlib.Core.Option.{Option, none, some}
 use mathlib.Core.Bool.{Bool, true, cond, _||_}
-use lib.ListN.{length, take}
+use lib.ListN.{length}
 use lib.Dec.{leb, eqb}
 use Rattle.octet.specs.Bytes.{between}
 use Rattle.octet.specs.Maybe.{orElse}
-use Rattle.text.specs.Decimal.{digits, digitsTaken}
-use Rattle.value.specs.Value.{badNumber, badPrice, badTime, badGraph, timeFits, isOneOf}
+use Rattle.value.specs.Value.{badNumber, badPrice, badTime, badGraph, timeFits, isOneOf, numberOr}
+use Rattle.value.specs.Readers.{checked}
+use Rattle.value.specs.declared.Check.{Check}
+use Rattle.value.specs.declared.Check.the-variants.{Good, BadForm, OutOfRange}
 use Rattle.field.specs.Pieces.{Pieces, valuesOf, textAt, scanOf}
 use Rattle.field.specs.declared.Scan.{Scan}
 use Rattle.field.specs.declared.Scan.the-variants.{Sound, Malformed, Empty}
@@ -23,15 +25,21 @@ use Rattle.table.specs.declared.Form.the-variants.{Number, Price, Time, 
 use Rattle.table.specs.declared.Range.{Range}
 use Rattle.table.specs.declared.Range.the-variants.{Of, Written, NoneOrFrom, Any}
 use Rattle.table.specs.declared.Row.{Row}
+use Rattle.table.specs.declared.Judgement.{Judgement}
+use Rattle.table.specs.declared.Judgement.the-variants.{Fine, Faulty}
 use Rattle.table.specs.Rows.{tableOf, kindIn}
-
--- the number at the front of a value, of at most 9 digits: all of it where the value is a number
-abbrev pub numberFront : List ℕ → ℕ
-numberFront v = digits (take (digitsTaken 9 v) v)
 
 -- the number of a tag
 abbrev pub numberAt : ℕ → Pieces → ℕ
-numberAt tag ps = numberFront (textAt tag ps)
+numberAt tag ps = numberOr (textAt tag ps)
+
+-- how a body is looked at: the values of a tag, in order, and the number of a tag
+pub record Look : Type 0 where
+  pub values : ℕ → Pieces
+  pub number : ℕ → ℕ
+
+abbrev pub atPieces : Pieces → Look
+atPieces ps = record { values = λ (tag : ℕ). valuesOf tag ps; number = λ (tag : ℕ). numberAt tag ps }
 
 -- ---- one value
 
@@ -44,43 +52,46 @@ badForm Text v = none
 badForm Graph v = badGraph v
 badForm (OneOf a b) v = none
 
--- "7 is 1 to O−1; 16 is 0 or at least 7's"
-unfoldable pub inRange : ℕ → Pieces → Range → ℕ → Bool
-inRange o ps (Of low high) n = between low high n
-inRange o ps Written n = between 1 (o - 1) n
-inRange o ps (NoneOrFrom tag) n = eqb n 0 || leb (numberAt tag ps) n
-inRange o ps Any n = true
+-- "7 is 1 to O−1; 16 is 0 or at least 7's"; `number` is the number of a tag
+unfoldable pub inRange : ℕ → (ℕ → ℕ) → Range → ℕ → Bool
+inRange o number (Of low high) n = between low high n
+inRange o number Written n = between 1 (o - 1) n
+inRange o number (NoneOrFrom tag) n = eqb n 0 || leb (number tag) n
+inRange o number Any n = true
 
 -- "a number out of range, 5"; "Wrong length of a text is 5"; "A Y or N, 20, 54, 150 and 442 are one byte, anything else 5"
-unfoldable pub fits : ℕ → Pieces → Form → Range → List ℕ → Bool
-fits o ps Number range v = inRange o ps range (numberFront v)
-fits o ps Price range v = true
-fits o ps Time range v = timeFits v
-fits o ps Text range v = inRange o ps range (length v)
-fits o ps Graph range v = inRange o ps range (length v)
-fits o ps (OneOf a b) range v = isOneOf a b v
+unfoldable pub fits : ℕ → (ℕ → ℕ) → Form → Range → List ℕ → Bool
+fits o number Number range v = inRange o number range (numberOr v)
+fits o number Price range v = true
+fits o number Time range v = timeFits v
+fits o number Text range v = inRange o number range (length v)
+fits o number Graph range v = inRange o number range (length v)
+fits o number (OneOf a b) range v = isOneOf a b v
+
+-- form, then range
+abbrev pub valueCheck : ℕ → (ℕ → ℕ) → Form → Range → List ℕ → Check
+valueCheck o number form range v = checked (badForm form v) (fits o number form range v)
 
 -- ---- one row
 
-abbrev pub formFault : ℕ → Option ℕ → Option Fault
-formFault tag none = none
-formFault tag (some at) = some (record { reason = 6; tag = tag; at = at })
-
-abbrev pub rangeFault : ℕ → Bool → Option Fault
-rangeFault tag ok = cond ok none (some (fault 5 tag))
+-- "bad form 6, out of range 5"
+abbrev pub checkFault : ℕ → Check → Option Fault
+checkFault tag Good = none
+checkFault tag (BadForm at) = some (record { reason = 6; tag = tag; at = at })
+checkFault tag OutOfRange = some (fault 5 tag)
 
 -- "each tag: missing 1, twice 5, bad form 6, out of range 5"
-unfoldable pub rowFault : ℕ → Pieces → Row → Pieces → Option Fault
-rowFault o ps row [] = cond (row .needed) (some (fault 1 (row .tag))) none
-rowFault o ps row (v ∷ []) = orElse (formFault (row .tag) (badForm (row .form) v)) (rangeFault (row .tag) (fits o ps (row .form) (row .range) v))
-rowFault o ps row (v ∷ w ∷ vs) = some (fault 5 (row .tag))
+unfoldable pub rowFault : ℕ → (ℕ → ℕ) → Row → Pieces → Option Fault
+rowFault o number row [] = cond (row .needed) (some (fault 1 (row .tag))) none
+rowFault o number row (v ∷ []) = checkFault (row .tag) (valueCheck o number (row .form) (row .range) v)
+rowFault o number row (v ∷ w ∷ vs) = some (fault 5 (row .tag))
 
 -- "The table of its type, top down"
-unfoldable pub walk : ℕ → Pieces → List Row → Option Fault
-walk o ps [] = none
-walk o ps (row ∷ rows) =
-    let rest = walk o ps rows in
-    orElse (rowFault o ps row (valuesOf (row .tag) ps)) rest
+unfoldable pub walk : ℕ → Look → List Row → Option Fault
+walk o look [] = none
+walk o look (row ∷ rows) =
+    let rest = walk o look rows in
+    orElse (rowFault o (look .number) row (look .values (row .tag))) rest
 
 -- ---- steps 5, 6, 7
 
@@ -102,6 +113,14 @@ kindFault phase kind.Report = none
 kindFault phase kind.Other = none
 kindFault phase kind.Unlisted = some (fault 11 0)
 
+-- in this order: the scan, the type, the table of the type
+unfoldable pub firstFault : Setup → Phase → ℕ → Scan → Kind → Look → Option Fault
+firstFault setup phase o scan k look = orElse (scanFault scan) (orElse (kindFault phase k) (walk o look (tableOf setup k)))
+
 unfoldable pub faultIn : Setup → Phase → ℕ → Pieces → Option Fault
-faultIn setup phase o ps =
-    orElse (scanFault (scanOf ps)) (orElse (kindFault phase (kindIn setup ps)) (walk o ps (tableOf setup (kindIn setup ps))))
+faultIn setup phase o ps = firstFault setup phase o (scanOf ps) (kindIn setup ps) (atPieces ps)
+
+-- what the judging answers: a fault, or none
+abbrev pub faultOf : Judgement → Option Fault
+faultOf Fine = none
+faultOf (Faulty f) = some f

@@ -1,0 +1,16 @@
+-- `table::row_at` meets its contract: the header's rows come first.
+use borrow.Author.Needs.{needs}
+use mathlib.Core.Path.{_≡_, sym, _∙_}
+use Rattle.table.specs.Rows.{headerRows, rowsOf}
+use Rattle.table.proofs.Walks.{cell-first, cell-later}
+use Rattle.table.proofs.row_at.Statement.{statement}
+use Rattle.table.proofs.row_at.Tie as tie
+
+returns : tie.Need-returns
+returns c = sym (cell-first headerRows (rowsOf (c .before .before .args .kind)) (c .before .before .args .i) (c .before .if1 .taken))
+
+returns-2 : tie.Need-returns-2
+returns-2 c = c .own-row .ensures ∙ sym (cell-later headerRows (rowsOf (c .before .before .args .kind)) (c .before .before .args .i) (c .before .if1 .left))
+
+pub row-at-spec : {M : Type 1} → statement M
+row-at-spec = tie.close (tie.spec (λ c. search needs) (λ c. search needs) returns (λ c κs. search needs) returns-2)
