@@ -2,3 +2,4 @@ pub mod Cases
 pub mod Lists
 pub mod Places
 pub mod Padded
+pub mod Unique

@@ -13,7 +13,7 @@ use Rattle.octet.specs.Bytes.{between, allIn, same, part}
 use Rattle.octet.specs.Places.{valueOf, placesOf, Order, HighFirst, LowFirst, ordered, numberBytes, numberIn, high, bigEndian}
 use Rattle.octet.specs.Splice.{splice}
 use Rattle.octet.proofs.Cases.{and-both, and-make}
-use Rattle.octet.proofs.Lists.{drop-step, part-add, length-part, same-false, is-between, between-low, between-high, splice-nil, splice-front, set-splice}
+use Rattle.octet.proofs.Lists.{drop-step, part-add, part-part, length-part, same-false, is-between, between-low, between-high, splice-nil, splice-front, set-splice}
 
 -- ---- lengths
 pub places-length : (base nought width n : ℕ) → length (placesOf base nought width n) ≡ width
@@ -169,9 +169,12 @@ low-eight s i h =
     ∙ low-append (part i 4 s) (part (i + 4) 4 s)
     ∙ ap (λ (k : ℕ). numberIn LowFirst (part i 4 s) + numberIn LowFirst (part (i + 4) 4 s) * 256 ^ k) (length-part i 4 s (omega arith))
 
--- lists that differ in a number of some part are not the same
-pub number-differs : (order : Order) (at n : ℕ) (a b : List ℕ) → (numberIn order (part at n a) ≡ numberIn order (part at n b) → ⊥) → same a b ≡ false
-number-differs order at n a b h = same-false a b (λ e. h (ap (λ (l : List ℕ). numberIn order (part at n l)) e))
+-- bytes at a place that differ from x in some number are not x
+pub number-differs : (order : Order) (m x : List ℕ) (at j w : ℕ) → j + w ≤ length x
+    → (numberIn order (part (at + j) w m) ≡ numberIn order (part j w x) → ⊥) → same (part at (length x) m) x ≡ false
+number-differs order m x at j w h d =
+    same-false (part at (length x) m) x
+    (λ e. d (ap (numberIn order) (sym (part-part at (length x) j w m h) ∙ ap (part j w) e)))
 
 -- ---- the loops that read and write bytes
 -- before the first turn of a writing loop, and after a turn: `left` places are still to be written

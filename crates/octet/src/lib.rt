@@ -33,6 +33,30 @@ pub fn agree(o: &[u8], s: &[u8]) -> bool
     true
 }
 
+// Whether a and b hold the same bytes: as many, and those agree.
+pub fn same(a: &[u8], b: &[u8]) -> bool
+    ensures { λ r. ⌜ r ≡ same (now (a .entry)) (now (b .entry)) ⌝ }
+{
+    if a.len() != b.len() {
+        return false;
+    }
+    agree(a, b)
+}
+
+// The n bytes from place `at` on, or as many as there are.
+pub fn part(s: &[u8], at: usize, n: usize) -> &[u8]
+    ensures { λ r. ⌜ now r ≡ part at n (now (s .entry)) ⌝ }
+{
+    if s.len() <= at {
+        return &s[..0];
+    }
+    if s.len() - at <= n {
+        return &s[at..];
+    }
+    let end = at + n;
+    &s[at..end]
+}
+
 // A byte as a word.
 fn wide(b: u8) -> u64
     ensures { λ r. ⌜ (r ≡ b) × (r < 256) ⌝ }
@@ -64,49 +88,37 @@ fn word(s: &[u8], i: usize) -> u64
     four(s, i) + four(s, i + 4) * 4294967296
 }
 
-// Whether a and b hold the same bytes: as many, and those agree. The last two words are compared first, since the
-// identifiers of a day share their front.
-pub fn same(a: &[u8], b: &[u8]) -> bool
-    ensures { λ r. ⌜ r ≡ same (now (a .entry)) (now (b .entry)) ⌝ }
-{
-    let n = a.len();
-    if n != b.len() {
-        return false;
-    }
-    if n < 8 {
-        return agree(a, b);
-    }
-    if word(a, n - 8) != word(b, n - 8) {
-        return false;
-    }
-    if n < 16 {
-        return agree(a, b);
-    }
-    if word(a, n - 16) != word(b, n - 16) {
-        return false;
-    }
-    agree(a, b)
-}
-
-// The n bytes from place `at` on, or as many as there are.
-pub fn part(s: &[u8], at: usize, n: usize) -> &[u8]
-    ensures { λ r. ⌜ now r ≡ part at n (now (s .entry)) ⌝ }
-{
-    if s.len() <= at {
-        return &s[..0];
-    }
-    if s.len() - at <= n {
-        return &s[at..];
-    }
-    let end = at + n;
-    &s[at..end]
-}
-
-// Whether the bytes of m from place `at` on begin with x.
-pub fn same_at(m: &[u8], at: usize, x: &[u8]) -> bool
+// Whether the bytes of m from place `at` on begin with x, from the front.
+fn begins_at(m: &[u8], at: usize, x: &[u8]) -> bool
     ensures { λ r. ⌜ r ≡ same (part at (length (now (x .entry))) (now (m .entry))) (now (x .entry)) ⌝ }
 {
     same(part(m, at, x.len()), x)
+}
+
+// Whether the bytes of m from place `at` on begin with x. Where there is room for two words the last two are compared
+// first, since the identifiers of a day share their front.
+pub fn same_at(m: &[u8], at: usize, x: &[u8]) -> bool
+    ensures { λ r. ⌜ r ≡ same (part at (length (now (x .entry))) (now (m .entry))) (now (x .entry)) ⌝ }
+{
+    let n = x.len();
+    if n < 16 {
+        return begins_at(m, at, x);
+    }
+    if m.len() < at {
+        return begins_at(m, at, x);
+    }
+    if m.len() - at < n {
+        return begins_at(m, at, x);
+    }
+    let last = n - 8;
+    if word(m, at + last) != word(x, last) {
+        return false;
+    }
+    let before = n - 16;
+    if word(m, at + before) != word(x, before) {
+        return false;
+    }
+    begins_at(m, at, x)
 }
 
 // How many bytes stand before the first b.
