@@ -60,9 +60,13 @@ numberOf o say = unless o (filledFrom say)
 abbrev pub uses : Say → ℕ
 uses say = cond (isGapFill say) 0 1
 
--- "Reject carries 45, 371 where a tag is named"
+-- "371 where a tag is named"
 abbrev pub named : ℕ → List Field
 named tag = said (not (eqb tag 0)) ((371 is decimal tag) ∷ [])
+
+-- "Reject carries 45, 371 where a tag is named, 372, 373"
+abbrev pub rejectOf : ℕ → Fault → List ℕ → List Field
+rejectOf n f word = (45 is decimal n) ∷ (named (f .tag) ++ (372 is take 3 word) ∷ (373 is decimal (f .reason)) ∷ [])
 
 -- "then the other tags in the order this paper names them". The word is what a message repeats: 112 of a Test Request ("Heartbeat with it"), at most 32 bytes, or the type
 -- that is rejected (372), at most 3
@@ -73,14 +77,20 @@ othersOf o word Echo = (112 is take 32 word) ∷ []
 othersOf o word Test = (112 is decimal o) ∷ []
 othersOf o word Logout = []
 othersOf o word (Resend from) = (7 is decimal from) ∷ (16 is decimal 0) ∷ []
-othersOf o word (Reject n f) = (45 is decimal n) ∷ (named (f .tag) ++ (372 is take 3 word) ∷ (373 is decimal (f .reason)) ∷ [])
+othersOf o word (Reject n f) = rejectOf n f word
 othersOf o word (GapFill from to) = (123 is bytesOf "Y") ∷ (36 is decimal to) ∷ []
 
--- "35, 34, 49 (ours), 56, 43 where said, 52 (the given time), 122 where said"; the gap fill "has 43=Y, 122 equal to 52"
+-- "35, 34, 49 (ours), 56"
+abbrev pub leadOf : Setup → ℕ → Say → List Field
+leadOf setup o say = (35 is typeOf say) ∷ (34 is decimal (numberOf o say)) ∷ (49 is ours setup) ∷ (56 is theirs setup) ∷ []
+
+-- "43 where said, 52 (the given time), 122 where said"; the gap fill "has 43=Y, 122 equal to 52"
+abbrev pub datedOf : List ℕ → Say → List Field
+datedOf time say =
+    said (isGapFill say) ((43 is bytesOf "Y") ∷ []) ++ (52 is take 21 time) ∷ said (isGapFill say) ((122 is take 21 time) ∷ [])
+
 unfoldable pub headerOf : Setup → ℕ → List ℕ → Say → List Field
-headerOf setup o time say =
-    (35 is typeOf say) ∷ (34 is decimal (numberOf o say)) ∷ (49 is ours setup) ∷ (56 is theirs setup)
-    ∷ (said (isGapFill say) ((43 is bytesOf "Y") ∷ []) ++ (52 is take 21 time) ∷ said (isGapFill say) ((122 is take 21 time) ∷ []))
+headerOf setup o time say = leadOf setup o say ++ datedOf time say
 
 abbrev pub fieldsOf : Setup → ℕ → List ℕ → List ℕ → Say → List Field
 fieldsOf setup o time word say = headerOf setup o time say ++ othersOf o word say
