@@ -3,7 +3,7 @@
 --     digits-append, digits-below     the number of digits after digits, and that k digits write one below ten to the k
 --     run-append, run-digits     the digits at the front of digits and of what follows them
 --     front-digits     what is read from the front of digits that no digit follows
---     front-fits     what is read fits
+--     front-in, front-fits     what is read is digits, and fits
 use mathlib.Core.Path.{_≡_, refl, sym, ap, _∙_}
 use mathlib.Core.Bool.{Bool, true, false}
 use mathlib.Core.List.{List, [], _∷_, _++_}
@@ -15,10 +15,10 @@ use lib.Seq.{take-append-seam, length-take-le}
 use lib.Dec.{lit<}
 use Rattle.octet.specs.Bytes.{between, allIn}
 use Rattle.octet.specs.Places.{valueOf}
-use Rattle.text.specs.Decimal.{digits, digitRun, digitsTaken, digitsAtFront, Fits}
 use Rattle.octet.proofs.Cases.{and-both}
 use Rattle.octet.proofs.Lists.{drop-step, drop-done, run-stop, run-most}
 use Rattle.octet.proofs.Places.{value-append, value-split, value-below, below-pow}
+use Rattle.text.specs.Decimal.{digits, digitRun, digitsTaken, digitsAtFront, Fits}
 use Rattle.text.specs.declared.Digits.{Digits}
 
 -- ---- the loop over digits: n digits that write v are read, at most k more are read from t
@@ -56,6 +56,9 @@ more n v most i s h l g =
 pub digits-append : (s t : List ℕ) → digits (s ++ t) ≡ digits s * 10 ^ length t + digits t
 digits-append s t = value-append 10 48 0 s t ∙ value-split 10 48 (digits s) t
 
+pub digits-below : (s : List ℕ) → allIn 48 57 s ≡ true → digits s < 10 ^ length s
+digits-below s h = value-below 10 48 (lit< tt) 57 (lit< tt) s h
+
 -- a run of digits, and what follows it that begins with none
 pub run-append : (s t : List ℕ) → allIn 48 57 s ≡ true → digitRun (s ++ t) ≡ length s + digitRun t
 run-append [] t h = sym (zero-add _)
@@ -72,9 +75,6 @@ unfolding digitsAtFront
 front-digits most s t h g a b =
     let e : digitsTaken most (s ++ t) ≡ length s = rw (run-digits s t h g) (omega arith) in
     rw (e, take-append-seam s t)
-
-pub digits-below : (s : List ℕ) → allIn 48 57 s ≡ true → digits s < 10 ^ length s
-digits-below s h = value-below 10 48 (lit< tt) 57 (lit< tt) s h
 
 -- a front of the digits at the front is all digits
 pub front-in : (n : ℕ) (s : List ℕ) → n ≤ digitRun s → allIn 48 57 (take n s) ≡ true

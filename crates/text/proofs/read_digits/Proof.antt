@@ -4,12 +4,12 @@ use Prim.Native.Nat.{ℕ, _≤_, _<_, _-_, _^_}
 use mathlib.Core.Path.{_≡_, sym, ap, _∙_}
 use native.Mathlib.Omega.{arith}
 use mathlib.Core.List.{List}
-use lib.ListN.{length, getD, drop}
+use lib.ListN.{getD, drop}
 use lib.Dec.{lit<}
 use borrow.Author.Needs.{needs}
 use Rattle.text.specs.Decimal.{digitsAtFront, Fits}
 use Rattle.text.specs.declared.Digits.{Digits}
-use Rattle.text.proofs.ReadLaws.{soFar, start, full, past, stop, more}
+use Rattle.text.proofs.ReadLaws.{soFar, start, full, past, stop, more, front-fits}
 use Rattle.octet.proofs.Lists.{is-between, is-below, is-above}
 use Rattle.octet.proofs.Places.{more-fits, below-pow}
 use Rattle.text.proofs.read_digits.Statement.{statement}
@@ -17,7 +17,7 @@ use Rattle.text.proofs.read_digits.Tie as tie
 
 abbrev Inv-loop : tie.InvT-loop
 Inv-loop s most end len₀ value₀ len value =
-    (len ≤ end) × (len ≤ length s) × (value < 10 ^ len) × (digitsAtFront most s ≡ soFar len value (end - len) (drop len s))
+    (len ≤ end) × (value < 10 ^ len) × (digitsAtFront most s ≡ soFar len value (end - len) (drop len s))
 
 abbrev μ-loop : tie.MeasureT-loop
 μ-loop s most end len₀ value₀ len value = end - len
@@ -34,11 +34,11 @@ answer : (p : tie.At-loop Inv-loop μ-loop)
     → (read p ≡ digitsAtFront (p .before .before .before .args .most) (given p))
     × Fits (p .before .before .before .args .most) (given p) (read p)
 answer p h =
-    let l : p .loop .len ≤ 9 = omega (arith, p .before .fewer .ensures) in
-    (sym (p .loop .inv .3 ∙ h), record { inside = p .loop .inv .1; asked = omega (arith, p .before .fewer .ensures); short = l; small = below-pow 10 9 (lit< tt) (p .loop .inv .2) l })
+    let e : read p ≡ digitsAtFront (p .before .before .before .args .most) (given p) = sym (p .loop .inv .2 ∙ h) in
+    (e, rw e (front-fits _ _))
 
 loop-holds : tie.Need-loop-holds Inv-loop μ-loop
-loop-holds c = (search needs, search needs, lit< tt, start _ _ ∙ ap (λ (e : ℕ). soFar 0 0 (e - 0) (c .before .before .args .s .now)) (sym (c .fewer .ensures)))
+loop-holds c = (search needs, lit< tt, start _ _ ∙ ap (λ (e : ℕ). soFar 0 0 (e - 0) (c .before .before .args .s .now)) (sym (c .fewer .ensures)))
 
 returns : tie.Need-returns Inv-loop μ-loop
 returns c = answer (c .before .before) (past _ _ _ _ _ (c .if1 .taken))
@@ -54,7 +54,7 @@ returns-3 c =
     answer p (stop _ _ _ (p .loop .len) (given p) (search needs) (is-above 48 57 _ (c .if3 .taken)))
 
 small : (p : tie.At-loop Inv-loop μ-loop) → p .loop .len < p .before .fewer .result → p .loop .value < 10 ^ 8
-small p h = below-pow 10 8 (lit< tt) (p .loop .inv .2) (omega (arith, p .before .fewer .ensures))
+small p h = below-pow 10 8 (lit< tt) (p .loop .inv .1) (omega (arith, p .before .fewer .ensures))
 
 mul-value : tie.Need-mul-value Inv-loop μ-loop
 mul-value c = omega (arith, small (c .before .before .before .before .before) (search needs))
@@ -68,9 +68,8 @@ loop-again c =
     let s = given p in
     let b = getD s (p .loop .len) 0 in (
       omega arith,
-      omega arith,
-      more-fits 10 _ {d = b - 48} (p .loop .inv .2) (omega arith),
-      p .loop .inv .3 ∙ more _ _ _ _ s (omega arith) (omega arith) (is-between 48 57 b (c .before .if2 .left) (c .if3 .left)),
+      more-fits 10 _ {d = b - 48} (p .loop .inv .1) (omega arith),
+      p .loop .inv .2 ∙ more _ _ _ _ s (omega arith) (omega arith) (is-between 48 57 b (c .before .if2 .left) (c .if3 .left)),
     )
 
 returns-4 : tie.Need-returns-4 Inv-loop μ-loop
