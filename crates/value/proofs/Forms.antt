@@ -1,4 +1,5 @@
--- Form, then range: what the tests of form make of `wellFormed`, and what it means that a value is well formed.
+-- Form, then range: what the tests of form make of `wellFormed`, what it means that a value is well formed, and what each answer of a check means.
+--     checked-good, checked-bad, checked-out     the form and the range behind an answer
 use mathlib.Core.Path.{_≡_, refl, sym, ap, _∙_}
 use mathlib.Core.Logic.{⊎-elim}
 use mathlib.Core.List.{List}
@@ -12,7 +13,7 @@ use borrow.Author.Tests.{eq-eqb, ne-eqb, eqb-true}
 use Rattle.octet.proofs.Cases.{of-cond, cond-true, cond-false, and-both, and-make, and-no-left, and-no-right}
 use Rattle.value.specs.Value.{wellFormed}
 use Rattle.value.specs.Readers.{checked}
-use Rattle.value.specs.declared.Check.the-variants.{Good}
+use Rattle.value.specs.declared.Check.the-variants.{Good, BadForm, OutOfRange}
 
 module _ (v : List ℕ) (good : ℕ) (complete : Bool) where
   pub form-short : (good ≡ length v → ⊥) → wellFormed v good complete ≡ some good
@@ -31,8 +32,18 @@ module _ (v : List ℕ) (good : ℕ) (complete : Bool) where
       (λ e f. (let p = and-both (eqb good (length v)) complete e in (eqb-true good (length v) (p .0), p .1)))
       (λ e f. absurd (let z : _≡_ {A = ℕ} 0 1 = cc in omega arith))
 
--- what is good has its form and its range
+-- ---- what each answer of a check means
 pub checked-good : (form : Option ℕ) (fits : Bool) → checked form fits ≡ Good → (form ≡ none) × (fits ≡ true)
 checked-good (some at) fits e = absurd (let z : _≡_ {A = ℕ} 0 1 = cc in omega arith)
 checked-good none true e = (refl, refl)
 checked-good none false e = absurd (let z : _≡_ {A = ℕ} 0 1 = cc in omega arith)
+
+pub checked-bad : (form : Option ℕ) (fits : Bool) (at : ℕ) → checked form fits ≡ BadForm at → form ≡ some at
+checked-bad (some place) fits at e = cc
+checked-bad none true at e = absurd (let z : _≡_ {A = ℕ} 0 1 = cc in omega arith)
+checked-bad none false at e = absurd (let z : _≡_ {A = ℕ} 0 1 = cc in omega arith)
+
+pub checked-out : (form : Option ℕ) (fits : Bool) → checked form fits ≡ OutOfRange → (form ≡ none) × (fits ≡ false)
+checked-out (some at) fits e = absurd (let z : _≡_ {A = ℕ} 0 1 = cc in omega arith)
+checked-out none true e = absurd (let z : _≡_ {A = ℕ} 0 1 = cc in omega arith)
+checked-out none false e = (refl, refl)

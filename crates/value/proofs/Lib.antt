@@ -5,3 +5,6 @@ pub mod Like
 pub mod Numbers
 pub mod Prices
 pub mod Times
+pub mod Texts
+pub mod Back
+pub mod Unique

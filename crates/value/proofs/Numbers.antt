@@ -1,5 +1,5 @@
 -- Numbers: what reading makes of the digits at the front, what it means that a number was read, and which values are numbers.
---     number-good     what it means that a number was read: a record of facts
+--     number-good, number-bad, number-out     what each answer means
 --     numeral, numeral-formed     a value is well formed as a number exactly where it is of digits only, 1 to 9
 --     number-read     a numeral in range is read
 --     number-or, number-or-small     the number of a well-formed value, and its bound
@@ -104,7 +104,7 @@ numeral-small v n =
     let h : digits v < 10 ^ 9 = below-pow 10 9 (lit< tt) (digits-below v (n .only)) (n .most) in
     omega arith
 
--- ---- what it means that a number was read
+-- ---- what each answer means
 pub record NumberGood (low high : ℕ) (v : List ℕ) (n : ℕ) : Type 0 where
   pub formed : badNumber v ≡ none
   pub numeral : Numeral v
@@ -113,15 +113,25 @@ pub record NumberGood (low high : ℕ) (v : List ℕ) (n : ℕ) : Type 0 where
   pub most : n ≤ high
   pub small : n ≤ 999999999
 
-read-as : (n : ℕ) (v : List ℕ) (form : Option ℕ) (fits : Bool) → numbered v form fits ≡ number.Value n → (form ≡ none) × (fits ≡ true) × (digits v ≡ n)
-read-as n v (some at) fits e = absurd (let z : _≡_ {A = ℕ} 0 1 = cc in omega arith)
-read-as n v none true e = (refl, refl, cc)
-read-as n v none false e = absurd (let z : _≡_ {A = ℕ} 0 1 = cc in omega arith)
+answer-good : (n : ℕ) (v : List ℕ) (form : Option ℕ) (fits : Bool) → numbered v form fits ≡ number.Value n → (form ≡ none) × (fits ≡ true) × (digits v ≡ n)
+answer-good n v (some at) fits e = absurd (let z : _≡_ {A = ℕ} 0 1 = cc in omega arith)
+answer-good n v none true e = (refl, refl, cc)
+answer-good n v none false e = absurd (let z : _≡_ {A = ℕ} 0 1 = cc in omega arith)
+
+answer-bad : (at : ℕ) (v : List ℕ) (form : Option ℕ) (fits : Bool) → numbered v form fits ≡ number.BadForm at → form ≡ some at
+answer-bad at v (some place) fits e = cc
+answer-bad at v none true e = absurd (let z : _≡_ {A = ℕ} 0 1 = cc in omega arith)
+answer-bad at v none false e = absurd (let z : _≡_ {A = ℕ} 0 1 = cc in omega arith)
+
+answer-out : (v : List ℕ) (form : Option ℕ) (fits : Bool) → numbered v form fits ≡ number.OutOfRange → (form ≡ none) × (fits ≡ false)
+answer-out v (some at) fits e = absurd (let z : _≡_ {A = ℕ} 0 1 = cc in omega arith)
+answer-out v none true e = absurd (let z : _≡_ {A = ℕ} 0 1 = cc in omega arith)
+answer-out v none false e = (refl, refl)
 
 pub number-good : (low high : ℕ) (v : List ℕ) (n : ℕ) → numberRead low high v ≡ number.Value n → NumberGood low high v n
 unfolding numberRead
 number-good low high v n e =
-    let p = read-as n v (badNumber v) (between low high (digits v)) e in
+    let p = answer-good n v (badNumber v) (between low high (digits v)) e in
     let q : digits v ≡ n = p .2 in
     let l = numeral v (p .0) in
     record {
@@ -132,6 +142,14 @@ number-good low high v n e =
       most = omega (arith, between-high low high (digits v) (p .1));
       small = omega (arith, numeral-small v l);
     }
+
+pub number-bad : (low high : ℕ) (v : List ℕ) (at : ℕ) → numberRead low high v ≡ number.BadForm at → badNumber v ≡ some at
+unfolding numberRead
+number-bad low high v at e = answer-bad at v (badNumber v) (between low high (digits v)) e
+
+pub number-out : (low high : ℕ) (v : List ℕ) → numberRead low high v ≡ number.OutOfRange → (badNumber v ≡ none) × (between low high (digits v) ≡ false)
+unfolding numberRead
+number-out low high v e = answer-out v (badNumber v) (between low high (digits v)) e
 
 -- ---- a numeral in range is read
 pub number-read : (low high : ℕ) (v : List ℕ) → badNumber v ≡ none → low ≤ digits v → digits v ≤ high → numberRead low high v ≡ number.Value (digits v)

@@ -1,5 +1,5 @@
 -- Prices: what reading makes of the digits before and after a point, what it means that a price was read, and which values are prices.
---     price-good     what it means that a price was read
+--     price-good, price-bad     what each answer means
 --     price-small     seven digits and four decimals at most
 --     price-parts     digits, a point and digits are a price, and which
 use mathlib.Core.Path.{_≡_, refl, sym, ap, _∙_, subst}
@@ -90,22 +90,30 @@ price-small v =
     let s = scaled-below (decimals v) (digits (take (decimals v) rest)) (omega arith) d in
     of-cond (λ (n : ℕ). digits (take (wholes v) v) * 10000 + n ≤ 99999999999) (pointed v) (λ h. omega arith) (λ h. omega arith)
 
--- ---- what it means that a price was read
+-- ---- what each answer means
 pub record PriceGood (v : List ℕ) (p : ℕ) : Type 0 where
   pub formed : badPrice v ≡ none
   pub price : priceIn v ≡ p
   pub small : p ≤ 99999999999
 
-read-as : (p : ℕ) (v : List ℕ) (form : Option ℕ) → priced v form ≡ price.Value p → (form ≡ none) × (priceIn v ≡ p)
-read-as p v (some at) e = absurd (let z : _≡_ {A = ℕ} 0 1 = cc in omega arith)
-read-as p v none e = (refl, cc)
+answer-good : (p : ℕ) (v : List ℕ) (form : Option ℕ) → priced v form ≡ price.Value p → (form ≡ none) × (priceIn v ≡ p)
+answer-good p v (some at) e = absurd (let z : _≡_ {A = ℕ} 0 1 = cc in omega arith)
+answer-good p v none e = (refl, cc)
 
 pub price-good : (v : List ℕ) (p : ℕ) → priceRead v ≡ price.Value p → PriceGood v p
 unfolding priceRead
 price-good v p e =
-    let q = read-as p v (badPrice v) e in
+    let q = answer-good p v (badPrice v) e in
     let n : priceIn v ≡ p = q .1 in
     record { formed = q .0; price = n; small = omega (arith, price-small v) }
+
+answer-bad : (at : ℕ) (v : List ℕ) (form : Option ℕ) → priced v form ≡ price.BadForm at → form ≡ some at
+answer-bad at v (some place) e = cc
+answer-bad at v none e = absurd (let z : _≡_ {A = ℕ} 0 1 = cc in omega arith)
+
+pub price-bad : (v : List ℕ) (at : ℕ) → priceRead v ≡ price.BadForm at → badPrice v ≡ some at
+unfolding priceRead
+price-bad v at e = answer-bad at v (badPrice v) e
 
 pub price-read : (v : List ℕ) → badPrice v ≡ none → priceRead v ≡ price.Value (priceIn v)
 unfolding priceRead

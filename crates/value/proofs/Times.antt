@@ -1,7 +1,8 @@
 -- UTC times: what reading makes of form and range, what it means that a time was read, and a time that gets .000.
---     time-good     what it means that a time was read
+--     time-good, time-bad, time-out     what each answer means
+--     time-is     what it means to be a time
 --     time-read     a time is read
---     time-filled     a time of 17 bytes with .000 after it is a time
+--     time-filled, time-full     a time of 17 bytes with .000 after it is a time, of 21 bytes
 use mathlib.Core.Path.{_≡_, refl, sym, ap, _∙_, subst}
 use mathlib.Core.Logic.{_⊎_, ⊎-elim, inl, inr}
 use mathlib.Core.List.{List, _++_, append-nil}
@@ -11,10 +12,10 @@ use Prim.Native.Nat.{ℕ, _+_, _≤_, min}
 use native.Mathlib.Omega.{arith}
 use lib.ListN.{length, length-append, length-take, drop}
 use lib.Dec.{eqb}
-use borrow.Author.Tests.{eqb-true}
+use borrow.Author.Tests.{eqb-true, eq-eqb}
 use Rattle.octet.specs.Bytes.{bytesOf, allIn, part}
 use Rattle.octet.specs.Maybe.{isNone}
-use Rattle.octet.proofs.Cases.{cond-true, cond-false, and-both, and-make, or-cases, and-no-left}
+use Rattle.octet.proofs.Cases.{of-cond, contrary, cond-true, and-both, and-make, or-cases}
 use Rattle.octet.proofs.Lists.{part-first}
 use Rattle.text.specs.Decimal.{digits, digitsAtFront}
 use Rattle.text.specs.declared.Digits.{Digits}
@@ -23,7 +24,7 @@ use Rattle.value.specs.Value.{wellFormed, likeRun, timePattern, timeLong
 use Rattle.value.specs.Readers.{checked, timeChecked}
 use Rattle.value.specs.declared.Check.{Check}
 use Rattle.value.specs.declared.Check.the-variants.{Good, BadForm, OutOfRange}
-use Rattle.value.proofs.Forms.{form-short, form-part, form-well, form-good, checked-good}
+use Rattle.value.proofs.Forms.{form-short, form-part, form-well, form-good, checked-good, checked-bad, checked-out}
 use Rattle.value.proofs.Like.{like-digits, like-append}
 
 -- ---- form, and then range
@@ -94,6 +95,14 @@ time-good v e =
     let p = checked-good (badTime v) (timeFits v) e in
     record { formed = p .0; fits = p .1; time = of-parts v (p .0) (p .1); lengths = time-lengths v (p .0) }
 
+pub time-bad : (v : List ℕ) (at : ℕ) → timeChecked v ≡ BadForm at → badTime v ≡ some at
+unfolding timeChecked
+time-bad v at e = checked-bad (badTime v) (timeFits v) at e
+
+pub time-out : (v : List ℕ) → timeChecked v ≡ OutOfRange → (badTime v ≡ none) × (timeFits v ≡ false)
+unfolding timeChecked
+time-out v e = checked-out (badTime v) (timeFits v) e
+
 none-is : (o : Option ℕ) → isNone o ≡ true → o ≡ none
 none-is none e = refl
 none-is (some at) e = absurd (let z : _≡_ {A = ℕ} 0 1 = cc in omega arith)
@@ -126,3 +135,10 @@ time-filled t e l =
     let r : likeRun timePattern (t ++ w) ≡ 21 = like-append timePattern t w g ∙ rw l in
     of-parts (t ++ w) (form-well (t ++ w) (likeRun timePattern (t ++ w)) (timeLong (length (t ++ w))) (r ∙ sym n) (ap timeLong n))
     (fits-first t w l ∙ time-is t e .fits)
+
+-- a time as a note has it
+pub time-full : (t : List ℕ) → isTime t ≡ true → (isTime (cond (eqb (length t) 17) (t ++ bytesOf ".000") t) ≡ true) × (length (cond (eqb (length t) 17) (t ++ bytesOf ".000") t) ≡ 21)
+time-full t e =
+    of-cond (λ (s : List ℕ). (isTime s ≡ true) × (length s ≡ 21)) (eqb (length t) 17)
+    (λ h. (let l = eqb-true (length t) 17 h in (time-filled t e l, length-append t (bytesOf ".000") ∙ ap (λ (k : ℕ). k + 4) l)))
+    (λ h. (e, ⊎-elim (λ (l : length t ≡ 17). contrary (eq-eqb (length t) 17 l) h) (λ l. l) (time-is t e .lengths)))

@@ -2,7 +2,6 @@
 ghost use mathlib.Core.Path.{_≡_};
 ghost use mathlib.Core.Option.{none};
 ghost use Prim.Native.Nat.{_-_, _^_, _≤_};
-ghost use lib.ListN.{getD};
 ghost use Rattle.octet.specs.Bytes.{between, part};
 ghost use Rattle.text.specs.Decimal.{digitsAtFront};
 ghost use Rattle.value.specs.Value.{numberOr, pointAt, priceIn, likeByte, likeRun, timePattern, timeLong, badTime, leap, daysIn, isDay, isClock, timeFits};

@@ -1,0 +1,40 @@
+-- "Worked by hand (P is proved)": the paper's cases, as one table under one statement.
+use Prim.Native.Nat.{ℕ}
+use Prim.Native.String.{String}
+use mathlib.Core.Path.{_≡_}
+use mathlib.Core.List.{List, [], _∷_, _++_}
+use mathlib.Core.Option.{Option, none, some}
+use mathlib.Core.Bool.{Bool, true, false, cond}
+use Rattle.octet.specs.Bytes.{bytesOf}
+use Rattle.value.specs.Value.{isDay, numberOn}
+use Rattle.value.specs.Readers.{priceRead, priceReason, timeChecked, checkReason}
+use Rattle.value.specs.declared.Price.the-variants.{Value}
+
+-- a case: what is read or judged, and what it gives
+pub data Case : Type 0 where
+  price : String → ℕ → Case
+  noPrice : String → ℕ → Case
+  day : String → Bool → Case
+
+-- YYYYMMDD is a day, or is none; and so says a time of that day
+abbrev pub DayIs : List ℕ → Bool → Type 0
+DayIs s is =
+    (isDay (numberOn 0 4 s) (numberOn 4 2 s) (numberOn 6 2 s) ≡ is)
+    × (checkReason (timeChecked (s ++ bytesOf "-00:00:00")) ≡ cond is none (some 5))
+
+abbrev pub Holds : Case → Type 0
+Holds (price t p) = priceRead (bytesOf t) ≡ Value p
+Holds (noPrice t reason) = priceReason (priceRead (bytesOf t)) ≡ some reason
+Holds (day t is) = DayIs (bytesOf t) is
+
+abbrev pub All : List Case → Type 0
+All [] = Unit
+All (c ∷ cs) = Holds c × All cs
+
+abbrev pub cases : List Case
+cases =
+    price "1.05" 10500
+    ∷ noPrice "5." 6
+    ∷ day "20240229" true
+    ∷ day "20230229" false
+    ∷ []
