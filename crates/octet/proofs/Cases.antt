@@ -6,7 +6,7 @@ use mathlib.Core.Option.{Option, none, some}
 use mathlib.Core.Bool.{Bool, true, false, not, cond, _&&_, _||_}
 use Prim.Native.Nat.{ℕ, zero, suc, zero-le, suc-le-suc, _≤_, _<_}
 use lib.Dec.{T}
-use Rattle.octet.specs.Maybe.{orElse, isNone, unless, first, find}
+use Rattle.octet.specs.Maybe.{orElse, find}
 
 -- ---- a test is one or the other, and never both
 pub bool-case : (t : Bool) → (t ≡ true) ⊎ (t ≡ false)

@@ -1,8 +1,8 @@
 -- List laws: what is left of a list at a place, parts, sameness, agreement, runs, joined lists, and lists written over others (`splice`).
 use mathlib.Core.Path.{_≡_, refl, sym, ap, _∙_, subst}
-use mathlib.Core.Logic.{_⊎_, inl, inr, ⊎-elim}
-use mathlib.Core.List.{List, [], _∷_, _++_, append-assoc, append-nil}
-use mathlib.Core.Bool.{Bool, true, false, cond, _&&_, and-assoc}
+use mathlib.Core.Logic.{⊎-elim}
+use mathlib.Core.List.{List, [], _∷_, _++_, reverse, reverse-cons, append-assoc, append-nil}
+use mathlib.Core.Bool.{Bool, true, false, _&&_, and-assoc, and-comm, and-true}
 use Prim.Native.Nat.{ℕ, zero, suc, _+_, _-_, _≤_, _<_}
 use native.Mathlib.Nat.{add-sub-cancel-left, zero-sub, sub-zero, min-le-left, le-of-eq, add-zero}
 use native.Mathlib.Numerals.{add-one}
@@ -234,6 +234,43 @@ module _ (low high : ℕ) where
   allIn-append [] t = refl
   allIn-append (b ∷ s) t =
       ap (_&&_ (between low high b)) (allIn-append s t) ∙ sym (and-assoc (between low high b) (allIn low high s) (allIn low high t))
+
+  pub allIn-reverse : (s : List ℕ) → allIn low high (reverse s) ≡ allIn low high s
+  allIn-reverse [] = refl
+  allIn-reverse (b ∷ s) =
+      let t = between low high b in
+      ap (allIn low high) (reverse-cons b s)
+      ∙ allIn-append (reverse s) (b ∷ [])
+      ∙ ap (λ (p : Bool). p && (t && true)) (allIn-reverse s)
+      ∙ ap (_&&_ (allIn low high s)) (and-true t)
+      ∙ and-comm (allIn low high s) t
+
+  -- byte by byte
+  pub allIn-at : (s : List ℕ) (i : ℕ) → allIn low high s ≡ true → i < length s → between low high (getD s i 0) ≡ true
+  allIn-at [] i e h = absurd (omega arith)
+  allIn-at (b ∷ s) zero e h = and-left (between low high b) (allIn low high s) e
+  allIn-at (b ∷ s) (suc i) e h = allIn-at s i (and-right (between low high b) (allIn low high s) e) (omega arith)
+
+  pub allIn-of : (s : List ℕ) → ((i : ℕ) → i < length s → between low high (getD s i 0) ≡ true) → allIn low high s ≡ true
+  allIn-of [] f = refl
+  allIn-of (b ∷ s) f =
+      and-make (between low high b) (allIn low high s) (f 0 (omega arith)) (allIn-of s (λ i h. f (suc i) (omega arith)))
+
+  -- of a part
+  pub allIn-take : (n : ℕ) (s : List ℕ) → allIn low high s ≡ true → allIn low high (take n s) ≡ true
+  allIn-take zero s e = refl
+  allIn-take (suc n) [] e = refl
+  allIn-take (suc n) (b ∷ s) e =
+      let p = and-both (between low high b) (allIn low high s) e in
+      and-make (between low high b) (allIn low high (take n s)) (p .0) (allIn-take n s (p .1))
+
+  pub allIn-drop : (n : ℕ) (s : List ℕ) → allIn low high s ≡ true → allIn low high (drop n s) ≡ true
+  allIn-drop zero s e = e
+  allIn-drop (suc n) [] e = refl
+  allIn-drop (suc n) (b ∷ s) e = allIn-drop n s (and-right (between low high b) (allIn low high s) e)
+
+  pub allIn-part : (at n : ℕ) (s : List ℕ) → allIn low high s ≡ true → allIn low high (part at n s) ≡ true
+  allIn-part at n s e = allIn-take n (drop at s) (allIn-drop at s e)
 
   -- the run of bytes that all pass is all of them
   pub run-all : (s : List ℕ) → allIn low high s ≡ true → runIn low high s ≡ length s

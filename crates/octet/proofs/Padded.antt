@@ -1,9 +1,8 @@
 -- Laws of a text in a field of fixed width: its length, that it reads back, that it is well formed, and that a well-formed field is no other.
 use Prim.Native.Nat.{ℕ, zero, suc, _+_, _-_, _≤_, _<_}
 use mathlib.Core.Path.{_≡_, refl, ap, sym, _∙_}
-use mathlib.Core.List.{List, [], _∷_, _++_, append-assoc, append-nil}
+use mathlib.Core.List.{List, [], _∷_, _++_, append-assoc}
 use mathlib.Core.Bool.{Bool, true, false, cond, _&&_}
-use native.Mathlib.Nat.{add-sub-cancel-left, le-of-eq}
 use native.Mathlib.Numerals.{add-one}
 use native.Mathlib.Omega.{arith}
 use lib.Dec.{leb}
@@ -14,7 +13,7 @@ use Rattle.octet.specs.Bytes.{between, allIn, same, part}
 use Rattle.octet.specs.Splice.{splice, fitsAt}
 use Rattle.octet.specs.Padded.{fitsWidth, padded, textOf, paddedOk}
 use Rattle.octet.proofs.Cases.{and-both, and-left, and-right, and-make, and-no-left, and-no-right, bool-ext}
-use Rattle.octet.proofs.Lists.{is-between, is-below, is-above, part-all, between-low, between-high, same-true, same-of, fits-true, fits-false, set-splice, splice-join, splice-length, splice-nil, splice-out, part-front}
+use Rattle.octet.proofs.Lists.{is-between, is-below, is-above, part-all, between-low, between-high, same-true, same-of, fits-true, fits-false, set-splice, splice-join, splice-out, splice-read}
 
 -- ---- fitsWidth
 pub fits-width : (width : ℕ) (t : List ℕ) → length t < width → length t ≤ 255 → fitsWidth width t ≡ true
@@ -47,6 +46,14 @@ unfolding padded textOf
 padded-back-then width t rest =
     ap (take (length t)) (append-assoc t (replicate (width - 1 - length t) 0) rest)
     ∙ take-append-seam t (replicate (width - 1 - length t) 0 ++ rest)
+
+-- and where it was written over other bytes
+pub padded-written : (width at : ℕ) (t d : List ℕ) → fitsWidth width t ≡ true → at + width ≤ length d → textOf (part at width (splice d at (padded width t))) ≡ t
+padded-written width at t d e room =
+    let l = padded-length width t e in
+    ap textOf
+    (ap (λ (k : ℕ). part at k (splice d at (padded width t))) (sym l) ∙ splice-read d at (padded width t) (omega (arith, l)))
+    ∙ padded-back width t
 
 -- so one field is of one text
 pub padded-one : (width : ℕ) (a b : List ℕ) → padded width a ≡ padded width b → a ≡ b

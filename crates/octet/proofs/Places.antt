@@ -1,19 +1,19 @@
 -- Laws of numbers in places, stated once over base, width and order: what is written reads back, and how long it is.
 use Prim.Native.Nat.{ℕ, zero, suc, _+_, _-_, _*_, _/_, _%_, _^_, _≤_, _<_}
-use mathlib.Core.Path.{_≡_, refl, ap, sym, _∙_, subst}
-use mathlib.Core.List.{List, [], _∷_, _++_, reverse, reverse-append, reverse-reverse, append-nil}
-use mathlib.Core.Bool.{Bool, true, false, cond, _&&_}
-use native.Mathlib.Nat.{pow-zero, pow-suc, pow-succ', one-le-pow, mul-one, one-mul, zero-mul, mod-one, div-one, add-zero, zero-add, add-mul, mul-assoc, add-assoc, add-comm, mul-comm, sub-self, sub-zero, add-sub-cancel-left, mod-lt, mod-eq-of-lt, div-div-eq-div-mul, lt-of-lt-of-le, pow-le-pow-right}
+use mathlib.Core.Path.{_≡_, refl, ap, sym, _∙_}
+use mathlib.Core.List.{List, [], _∷_, _++_, reverse, reverse-append, reverse-reverse}
+use mathlib.Core.Bool.{true, false}
+use native.Mathlib.Nat.{pow-zero, pow-suc, pow-succ', one-le-pow, mul-one, zero-mul, mod-one, div-one, add-zero, zero-add, add-mul, mul-assoc, add-assoc, add-comm, sub-self, sub-zero, add-sub-cancel-left, mod-lt, mod-eq-of-lt, div-div-eq-div-mul, lt-of-lt-of-le, pow-le-pow-right}
 use native.Mathlib.Numerals.{add-one}
 use native.Mathlib.Omega.{arith}
 use lib.Arith.{mod-mul, digits-lt, digits-div, digits-mod}
-use lib.Dec.{lit<, leb}
-use lib.ListN.{length, take, drop, getD, set, length-append, length-reverse}
+use lib.Dec.{lit<}
+use lib.ListN.{length, take, drop, getD, set, length-reverse}
 use Rattle.octet.specs.Bytes.{between, allIn, same, part}
 use Rattle.octet.specs.Places.{valueOf, placesOf, Order, HighFirst, LowFirst, ordered, numberBytes, numberIn, high, bigEndian}
 use Rattle.octet.specs.Splice.{splice}
 use Rattle.octet.proofs.Cases.{and-both, and-make}
-use Rattle.octet.proofs.Lists.{drop-step, part-add, part-part, length-part, same-false, is-between, between-low, between-high, splice-nil, splice-front, set-splice}
+use Rattle.octet.proofs.Lists.{drop-step, part-add, part-part, length-part, same-false, is-between, between-low, between-high, splice-nil, splice-read, splice-front, set-splice, allIn-reverse}
 
 -- ---- lengths
 pub places-length : (base nought width n : ℕ) → length (placesOf base nought width n) ≡ width
@@ -113,6 +113,10 @@ pub ordered-length : (order : Order) (s : List ℕ) → length (ordered order s)
 ordered-length HighFirst s = refl
 ordered-length LowFirst s = length-reverse s
 
+pub ordered-in : (order : Order) (low high : ℕ) (s : List ℕ) → allIn low high (ordered order s) ≡ allIn low high s
+ordered-in HighFirst low high s = refl
+ordered-in LowFirst low high s = allIn-reverse low high s
+
 pub number-length : (order : Order) (width n : ℕ) → length (numberBytes order width n) ≡ width
 unfolding numberBytes
 number-length order width n = ordered-length order (placesOf 256 0 width n) ∙ places-length 256 0 width n
@@ -125,6 +129,33 @@ number-back order width n h =
 -- the same of the bytes at a place of a longer list
 pub number-read : (order : Order) (width n at : ℕ) (s : List ℕ) → n < 256 ^ width → part at width s ≡ numberBytes order width n → numberIn order (part at width s) ≡ n
 number-read order width n at s h e = rw e (number-back order width n h)
+
+-- the same of bytes that were written over others
+pub number-written : (order : Order) (width n at : ℕ) (d : List ℕ) → n < 256 ^ width → at + width ≤ length d
+    → numberIn order (part at width (splice d at (numberBytes order width n))) ≡ n
+number-written order width n at d h room =
+    let l = number-length order width n in
+    number-read order width n at (splice d at (numberBytes order width n)) h
+    (ap (λ (k : ℕ). part at k (splice d at (numberBytes order width n))) (sym l) ∙ splice-read d at (numberBytes order width n) (omega (arith, l)))
+
+-- and of bytes: their number is below 256 ^ length, and it is written by them
+pub number-below : (order : Order) (s : List ℕ) → allIn 0 255 s ≡ true → numberIn order s < 256 ^ length s
+unfolding numberIn
+number-below order s e =
+    rw ordered-length at (value-below 256 0 (lit< tt) 255 (lit< tt) (ordered order s) (ordered-in order 0 255 s ∙ e))
+
+pub bytes-back : (order : Order) (s : List ℕ) → allIn 0 255 s ≡ true → numberBytes order (length s) (numberIn order s) ≡ s
+unfolding numberBytes numberIn
+bytes-back order s e =
+    let o = ordered order s in
+    ap (λ (k : ℕ). ordered order (placesOf 256 0 k (valueOf 256 0 0 o))) (sym (ordered-length order s))
+    ∙ ap (ordered order) (places-value 256 0 (lit< tt) 255 (lit< tt) o (ordered-in order 0 255 s ∙ e))
+    ∙ ordered-twice order s
+
+-- each byte of a number is one
+pub number-in : (order : Order) (width n : ℕ) → allIn 0 255 (numberBytes order width n) ≡ true
+unfolding numberBytes
+number-in order width n = ordered-in order 0 255 (placesOf 256 0 width n) ∙ places-in 256 0 (lit< tt) 255 width n (omega arith)
 
 -- one number has one writing
 pub number-one : (order : Order) (width m n : ℕ) → m < 256 ^ width → n < 256 ^ width → numberBytes order width m ≡ numberBytes order width n → m ≡ n

@@ -13,7 +13,7 @@ use Rattle.octet.proofs.number.Statement.{statement}
 use Rattle.octet.proofs.number.Tie as tie
 
 abbrev Inv-loop : tie.InvT-loop
-Inv-loop s v₀ i₀ v i = (i ≤ length s) × (v < 256 ^ i) × (valueOf 256 0 v (drop i s) ≡ valueOf 256 0 0 s)
+Inv-loop s v₀ i₀ v i = (i ≤ length s) × (valueOf 256 0 v (drop i s) ≡ valueOf 256 0 0 s) × (v < 256 ^ i)
 
 abbrev μ-loop : tie.MeasureT-loop
 μ-loop s v₀ i₀ v i = length s - i
@@ -22,7 +22,7 @@ loop-holds : tie.Need-loop-holds Inv-loop μ-loop
 loop-holds c = search needs
 
 mul-v : tie.Need-mul-v Inv-loop μ-loop
-mul-v c = omega (arith, below-pow 256 7 {i = c .before .loop .i} (search needs) (c .before .loop .inv .1) (omega arith))
+mul-v c = omega (arith, below-pow 256 7 {i = c .before .loop .i} (search needs) (c .before .loop .inv .2) (omega arith))
 
 shared-slice-read-v : tie.Need-shared-slice-read-v Inv-loop μ-loop
 shared-slice-read-v c = search needs
@@ -33,7 +33,7 @@ cast-v c = omega (arith, c .shared-slice-known .given (c .before .before .loop .
 add-v : tie.Need-add-v Inv-loop μ-loop
 add-v c =
     let k = c .before .before in
-    omega (arith, below-pow 256 7 {i = k .loop .i} (search needs) (k .loop .inv .1) (omega arith), c .shared-slice-known .given (k .loop .i))
+    omega (arith, below-pow 256 7 {i = k .loop .i} (search needs) (k .loop .inv .2) (omega arith), c .shared-slice-known .given (k .loop .i))
 
 add-i : tie.Need-add-i Inv-loop μ-loop
 add-i c = search needs
@@ -47,18 +47,18 @@ loop-again c =
     let s = now (k .before .args .s) in
     let h : k .loop .i < length s = search needs in (
       search needs,
-      more-fits 256 (k .loop .i) (k .loop .inv .1) (omega (arith, c .shared-slice-known .given (k .loop .i))),
       ap (λ (d : ℕ). valueOf 256 0 (k .loop .v * 256 + d) (drop (k .loop .i + 1) s)) (sym (sub-zero (getD s (k .loop .i) 0)))
-          ∙ sym (value-go 256 0 (k .loop .v) s (k .loop .i) h) ∙ k .loop .inv .2,
+          ∙ sym (value-go 256 0 (k .loop .v) s (k .loop .i) h) ∙ k .loop .inv .1,
+      more-fits 256 (k .loop .i) (k .loop .inv .2) (omega (arith, c .shared-slice-known .given (k .loop .i))),
     )
 
 returns : tie.Need-returns Inv-loop μ-loop
 returns c =
     let k = c .before in
     let s = now (k .before .args .s) in
-    let v : valueOf 256 0 0 s ≡ k .loop .v = sym (k .loop .inv .2) ∙ ap (valueOf 256 0 (k .loop .v)) (drop-done s (k .loop .i) (search needs)) in
+    let v : valueOf 256 0 0 s ≡ k .loop .v = sym (k .loop .inv .1) ∙ ap (valueOf 256 0 (k .loop .v)) (drop-done s (k .loop .i) (search needs)) in
     let e : k .loop .i ≡ length s = omega arith in
-    (sym (big-is s ∙ v), rw e at (k .loop .inv .1))
+    (sym (big-is s ∙ v), rw e at (k .loop .inv .2))
 
 pub number-spec : {M : Type 1} → statement M
 number-spec =

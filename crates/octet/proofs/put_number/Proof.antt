@@ -1,11 +1,10 @@
 -- `octet::put_number` meets its contract: the lowest places stand written, and `left` higher ones are still to come.
 use borrow.Author.Needs.{needs}
 use native.Mathlib.Omega.{arith}
-use native.Mathlib.Nat.{mod-lt, zero-add}
+use native.Mathlib.Nat.{zero-add}
 use mathlib.Core.Path.{_≡_, sym, _∙_, ap}
-use Prim.Native.Nat.{ℕ, _≤_, _<_, _+_, _-_, _/_, _%_, _^_}
-use lib.Dec.{lit<}
-use lib.ListN.{length, set, length-set}
+use Prim.Native.Nat.{_≤_, _<_, _+_, _-_, _/_, _%_, _^_}
+use lib.ListN.{length, length-set}
 use denote.Ref.{now}
 use Rattle.octet.specs.Places.{placesOf, high, HighFirst}
 use Rattle.octet.specs.Splice.{splice}

@@ -1,12 +1,10 @@
 -- `octet::put_padded` meets its contract: the length byte, the text and the zeros are the field.
 use borrow.Author.Needs.{needs}
-use borrow.Author.Tests.{lt-leb}
-use mathlib.Core.Path.{_≡_, sym, ap, _∙_}
+use mathlib.Core.Path.{_≡_, ap, _∙_}
 use mathlib.Core.List.{List}
-use Prim.Native.Nat.{ℕ, _+_, _-_, _≤_, _<_}
+use Prim.Native.Nat.{ℕ, _+_, _-_}
 use native.Mathlib.Omega.{arith}
-use lib.ListN.{length, set, length-set, replicate}
-use lib.Dec.{leb}
+use lib.ListN.{length, length-set, replicate}
 use denote.Ref.{now}
 use Rattle.octet.specs.Splice.{splice}
 use Rattle.octet.proofs.Padded.{unfit-width, unfit-byte, fits-width, put-unfit, put-no-room, put-whole}
