@@ -4,22 +4,20 @@
 --     stepped, rest-end     the walk from piece to piece
 --     value-at     a value stands where it is said to stand
 --     count-at, scan-at     the count and the scan, from piece to piece
-use mathlib.Core.Path.{_≡_, refl, ap, sym, _∙_, subst}
+use mathlib.Core.Path.{_≡_, refl, ap, sym, _∙_}
 use mathlib.Core.Logic.{⊎-elim}
-use mathlib.Core.Bool.{Bool, true, false, cond, _&&_}
+use mathlib.Core.Bool.{Bool, true, false, cond}
 use mathlib.Core.List.{List, [], _∷_, _++_}
-use mathlib.Core.Option.{Option, none, some}
-use Prim.Native.Nat.{ℕ, zero, suc, _+_, _-_, _≤_, _<_, min}
-use native.Mathlib.Numerals.{add-one}
+use Prim.Native.Nat.{ℕ, suc, _+_, _-_, _≤_, _<_, min}
 use native.Mathlib.Omega.{arith}
-use lib.ListN.{length, getD, take, drop, length-drop}
-use lib.Seq.{drop-drop, drop-append-seam, take-append-seam}
-use lib.Dec.{eqb, ltb}
+use lib.ListN.{length, take, drop, length-drop}
+use lib.Seq.{drop-drop}
+use lib.Dec.{eqb}
 use borrow.Author.Tests.{eq-eqb, ne-eqb, lt-ltb, le-ltb}
 use Rattle.octet.specs.Bytes.{part, untilByte}
 use Rattle.octet.specs.Maybe.{unless, first}
-use Rattle.octet.proofs.Cases.{bool-case, of-cond, le-or-lt, cond-true, cond-false}
-use Rattle.octet.proofs.Lists.{drop-step, drop-done, length-part, part-drop, until-most, drop-take}
+use Rattle.octet.proofs.Cases.{le-or-lt}
+use Rattle.octet.proofs.Lists.{drop-done, length-part, part-drop, until-most, drop-take}
 use Rattle.text.specs.Decimal.{digitRun}
 use Rattle.field.specs.Pieces.{Pieces, onFirst, piecesOf, tagged, tagOf, valueAfter, valued, carries, valuesOf, textAt, pieceScan, scanOf, andThen}
 use Rattle.field.specs.Stands.{pieceAt, located, orHere, placeFrom, placeOf, stepOf, faultOf, hits}

@@ -1,21 +1,18 @@
 -- A piece by the digits at its front, of which one more is read than a tag may have.
 --     no-digit, too-long, zero-first, no-equals, is-field     what it is, in the order of the definition's tests
 --     stands-in     a byte that is not 0 stands inside
-use mathlib.Core.Path.{_≡_, refl, ap, sym, _∙_}
-use mathlib.Core.Bool.{Bool, true, false, cond, _&&_, not}
+use mathlib.Core.Path.{_≡_, ap, sym, _∙_}
+use mathlib.Core.Bool.{true}
 use mathlib.Core.List.{List, [], _∷_}
 use Prim.Native.Nat.{ℕ, zero, suc, _+_, _-_, _≤_, _<_, min}
 use native.Mathlib.Omega.{arith}
-use lib.ListN.{length, getD, take, List·getD-eq-default}
-use lib.Dec.{eqb, leb}
+use lib.ListN.{length, getD, take}
 use borrow.Author.Tests.{eq-eqb, ne-eqb}
 use Rattle.octet.specs.Bytes.{between}
 use Rattle.octet.proofs.Lists.{is-between, is-below, is-above}
 use Rattle.text.specs.Decimal.{digits, digitRun, digitsAtFront}
 use Rattle.text.specs.declared.Digits.{Digits}
-use Rattle.field.specs.Pieces.{tagged, tagOf}
 use Rattle.field.specs.Stands.{pieceAt}
-use Rattle.field.specs.declared.Piece.{Piece}
 use Rattle.field.specs.declared.Piece.the-variants.{Field, Stray}
 
 pub stands-in : (p : List ℕ) (k b : ℕ) → getD p k 0 ≡ b → 0 < b → k < length p

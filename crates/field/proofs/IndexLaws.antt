@@ -1,23 +1,24 @@
 -- One pass fills the index, and the index says of every tag what the pieces of the body say.
 --     filled     the lists that the pass fills are those of the definition
 --     value-law, count-law, scan-law     lookups by the index of a body are the definitions on its pieces, for every tag
---     twice-law, missing-law     what a count says
+--     twice-law, missing-law, first-law, has-law, has-text     what a count and a value say of a tag
+--     values-none, values-one, values-more     what a count says of the values themselves
 use mathlib.Core.Path.{_≡_, refl, ap, sym, _∙_}
 use mathlib.Core.Bool.{Bool, true, false, cond, not, _&&_}
 use mathlib.Core.List.{List, [], _∷_, map}
 use mathlib.Core.Option.{Option, none, some}
-use Prim.Native.Nat.{ℕ, zero, suc, _+_, _≤_, _<_, min}
+use Prim.Native.Nat.{ℕ, zero, suc, _+_, _<_, min}
 use native.Mathlib.Omega.{arith}
 use native.Mathlib.Nat.{zero-add}
-use lib.ListN.{length, getD, set, replicate, length-set, length-map, length-replicate, getD-replicate}
+use lib.ListN.{length, getD, drop, set, replicate, length-set, length-map, length-replicate, getD-replicate}
 use lib.Seq.{getD-set-same, getD-set-other, ext-getD}
 use lib.Dec.{eqb, ltb}
 use borrow.Author.Tests.{eqb-true, eqb-false, ltb-true, lt-ltb, eq-eqb, ne-eqb, not-true}
-use Rattle.octet.specs.Bytes.{part}
-use Rattle.octet.specs.Maybe.{isNone, first}
-use Rattle.octet.proofs.Cases.{and-both}
-use Rattle.field.specs.Pieces.{Pieces, piecesOf, valuesOf, firstOf, isTwice, textAt, scanOf}
-use Rattle.field.specs.Stands.{located, orHere, placeFrom, placeOf, hits}
+use Rattle.octet.specs.Bytes.{part, same}
+use Rattle.octet.specs.Maybe.{isNone, unless, first}
+use Rattle.octet.proofs.Cases.{and-both, ap-cond}
+use Rattle.field.specs.Pieces.{Pieces, piecesOf, valuesOf, firstOf, isTwice, isThat, has, textAt, scanOf}
+use Rattle.field.specs.Stands.{located, placeFrom, placeOf}
 use Rattle.field.specs.Index.{listed, slotCount, position, slotOf, startIn, lenIn, countOf, indexOf, valueIn, countIn, Slots, slots, notedAt, noted}
 use Rattle.field.specs.declared.Place.{Place}
 use Rattle.field.specs.declared.Place.the-variants.{At, Missing}
@@ -203,6 +204,10 @@ slotsFrom x (g ∷ gs) = slotsFrom (noted x g) gs
 abbrev pub noSlots : Slots
 noSlots = slots (replicate slotCount 0) (replicate slotCount 0) (replicate slotCount 0)
 
+-- one step of it
+pub pass-on : (x y : Slots) (g : Piece) (gs hs : List Piece) → hs ≡ g ∷ gs → y ≡ noted x g → slotsFrom x hs ≡ slotsFrom y gs
+pass-on x y g gs hs e f = rw (e, f)
+
 sized-from : (x : Slots) (gs : List Piece) → Sized x → Sized (slotsFrom x gs)
 sized-from x [] z = z
 sized-from x (g ∷ gs) z = sized-from (noted x g) gs (sized x g z)
@@ -272,6 +277,25 @@ least-two zero = refl
 least-two (suc zero) = refl
 least-two (suc (suc n)) = rw (lt-ltb 1 (min 2 (suc (suc n))) (omega arith), lt-ltb 1 (suc (suc n)) (omega arith))
 
+-- what it says of the values themselves
+pub values-none : (vs : Pieces) → min 2 (length vs) ≡ 0 → vs ≡ []
+values-none [] e = refl
+values-none (v ∷ vs) e = absurd (omega arith)
+
+pub values-one : (vs : Pieces) → min 2 (length vs) ≡ 1 → vs ≡ unless [] (first vs) ∷ []
+values-one [] e = absurd (omega arith)
+values-one (v ∷ []) e = refl
+values-one (v ∷ w ∷ vs) e = absurd (omega arith)
+
+pub values-more : (vs : Pieces) → 1 < min 2 (length vs) → vs ≡ unless [] (first vs) ∷ getD vs 1 [] ∷ drop 2 vs
+values-more [] e = absurd (omega arith)
+values-more (v ∷ []) e = absurd (omega arith)
+values-more (v ∷ w ∷ vs) e = refl
+
+first-by : (vs : Pieces) → first vs ≡ cond (eqb (min 2 (length vs)) 0) none (some (unless [] (first vs)))
+first-by [] = refl
+first-by (v ∷ vs) = rw (ne-eqb (min 2 (suc (length vs))) 0 (λ z. omega arith))
+
 pub none-there : (vs : Pieces) → eqb (min 2 (length vs)) 0 ≡ isNone (first vs)
 none-there [] = refl
 none-there (v ∷ vs) = ne-eqb (min 2 (suc (length vs))) 0 (λ z. omega arith)
@@ -306,3 +330,24 @@ module _ (body : List ℕ) (tag : ℕ) where
 
   pub missing-law : eqb (countIn body (indexOf body .count) tag) 0 ≡ isNone (firstOf tag (piecesOf body))
   missing-law = ap (λ (n : ℕ). eqb n 0) count-law ∙ none-there (valuesOf tag (piecesOf body))
+
+  -- the first field of a tag, and whether it has a value, by a count and a value
+  pub first-law : firstOf tag (piecesOf body)
+      ≡ cond (eqb (countIn body (indexOf body .count) tag) 0) none (some (valueIn body (indexOf body .start) (indexOf body .len) tag))
+  first-law = rw (count-law, value-law) (first-by (valuesOf tag (piecesOf body)))
+
+  pub has-law : (v : List ℕ) → has tag v (piecesOf body)
+      ≡ cond (eqb (countIn body (indexOf body .count) tag) 0) false (same v (valueIn body (indexOf body .start) (indexOf body .len) tag))
+  has-law v =
+      let c = countIn body (indexOf body .count) tag in
+      let w = valueIn body (indexOf body .start) (indexOf body .len) tag in
+      ap (isThat v) first-law ∙ ap-cond (isThat v) (eqb c 0) none (some w)
+
+  -- where the value asked for is not empty the count need not be looked at
+  pub has-text : (v : List ℕ) → 0 < length v → has tag v (piecesOf body) ≡ same v (valueIn body (indexOf body .start) (indexOf body .len) tag)
+  has-text v h = rw value-law (by v h (firstOf tag (piecesOf body)))
+    where
+      by : (v : List ℕ) → 0 < length v → (o : Option (List ℕ)) → isThat v o ≡ same v (unless [] o)
+      by [] h o = absurd (omega arith)
+      by (b ∷ v) h none = refl
+      by (b ∷ v) h (some w) = refl

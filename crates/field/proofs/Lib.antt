@@ -1,4 +1,5 @@
 pub mod Cuts
 pub mod Heads
 pub mod IndexLaws
+pub mod Written
 pub mod Unique

@@ -26,13 +26,13 @@ pub enum Place {
 }
 
 // A piece: a field, by its tag and where its value stands, or none.
-pub enum Piece {
+enum Piece {
     Field { tag: u32, start: usize, len: usize },
     Stray,
 }
 
 // A piece, and where the next one begins.
-pub struct Step {
+struct Step {
     pub piece: Piece,
     pub next: usize,
 }

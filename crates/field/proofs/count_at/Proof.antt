@@ -1,5 +1,5 @@
 use borrow.Author.Needs.{needs}
-use borrow.Author.Tests.{lt-ltb, le-ltb, eq-eqb, ne-eqb}
+use borrow.Author.Tests.{lt-ltb, le-ltb}
 use Rattle.field.specs.Index.{countIn}
 use Rattle.field.proofs.count_at.Statement.{statement}
 use Rattle.field.proofs.count_at.Tie as tie

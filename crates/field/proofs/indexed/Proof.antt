@@ -1,17 +1,16 @@
 -- The pass: what is noted so far and the pieces that are left make the whole index.
 use borrow.Author.Needs.{needs}
-use mathlib.Core.Path.{_≡_, refl, ap, sym, _∙_}
-use mathlib.Core.List.{List, _∷_}
-use Prim.Native.Nat.{ℕ, _-_, _≤_}
+use mathlib.Core.Path.{_≡_, refl, ap, _∙_}
+use mathlib.Core.List.{List}
+use Prim.Native.Nat.{_-_, _≤_}
 use native.Mathlib.Omega.{arith}
 use lib.ListN.{length}
 use Rattle.field.specs.Pieces.{piecesOf, scanOf, andThen}
 use Rattle.field.specs.Stands.{located}
-use Rattle.field.specs.Index.{slots, indexOf, Slots}
+use Rattle.field.specs.Index.{slots}
 use Rattle.field.specs.declared.Piece.{Piece}
-use Rattle.field.specs.declared.Scan.{Scan}
 use Rattle.field.proofs.Cuts.{restAt, Stepped, stepped, rest-end, scanIn, scan-at, and-then-sound, and-then-assoc}
-use Rattle.field.proofs.IndexLaws.{slotsFrom, noSlots, index-is}
+use Rattle.field.proofs.IndexLaws.{slotsFrom, noSlots, pass-on, index-is}
 use Rattle.field.proofs.indexed.Statement.{statement}
 use Rattle.field.proofs.indexed.Tie as tie
 
@@ -39,8 +38,7 @@ loop-again c =
     let t = step (f .before) in
     let p = f .before .before .before in (
       t .inside,
-      p .loop .inv .1 ∙ ap (slotsFrom (slots (p .loop .start) (p .loop .len) (p .loop .count))) (t .cuts)
-          ∙ ap (λ (x : Slots). slotsFrom x (restAt (p .before .before .args .body .now) (f .before .step-from .result .next))) (sym (c .note .ensures)),
+      p .loop .inv .1 ∙ pass-on _ _ _ _ _ (t .cuts) (c .note .ensures),
       p .loop .inv .2 ∙ rw (t .cuts, ← f .fault-of .ensures, ← and-then-assoc _ _ _, ← a .and-then .ensures),
     )
 

@@ -1,9 +1,9 @@
 -- The piece from a place to the next `|`, and the place after it.
 use borrow.Author.Needs.{needs}
-use mathlib.Core.Path.{_≡_, ap, sym, _∙_}
-use Prim.Native.Nat.{ℕ, _+_, _-_, _≤_}
+use mathlib.Core.Path.{_≡_, ap, _∙_}
+use Prim.Native.Nat.{_+_, _≤_}
 use native.Mathlib.Omega.{arith}
-use lib.ListN.{length, take, drop, length-drop}
+use lib.ListN.{length, drop, length-drop}
 use Rattle.octet.specs.Bytes.{untilByte}
 use Rattle.octet.proofs.Lists.{part-rest, until-most}
 use Rattle.field.specs.Stands.{stepOf}
