@@ -284,7 +284,7 @@ pub fn text_of(f: &[u8]) -> &[u8]
     part(f, 1, byte_at(f, 0) as usize)
 }
 
-// The last place of n, 0 where there is none.
+// The last of n places, 0 where there is none.
 fn last(n: usize) -> usize
     ensures { λ r. ⌜ r ≡ n - 1 ⌝ }
 {

@@ -9,13 +9,10 @@ use Rattle.octet.proofs.Lists.{run-is-all}
 use Rattle.octet.proofs.all_in.Statement.{statement}
 use Rattle.octet.proofs.all_in.Tie as tie
 
-run-in-requires : tie.Need-run-in-requires
-run-in-requires c κs = search needs
-
 returns : tie.Need-returns
 returns c =
     let a = c .before .before .args in
     ap (λ (n : ℕ). eqb n (length (now (a .s)))) (c .run-in .ensures) ∙ run-is-all (a .low) (a .high) (now (a .s))
 
 pub all-in-spec : {M : Type 1} → statement M
-all-in-spec = tie.close (tie.spec run-in-requires returns)
+all-in-spec = tie.close (tie.spec (λ c κs. search needs) returns)

@@ -8,14 +8,8 @@ use borrow.Author.Needs.{needs}
 use Rattle.octet.proofs.begins_at.Statement.{statement}
 use Rattle.octet.proofs.begins_at.Tie as tie
 
-part-requires : tie.Need-part-requires
-part-requires c κs = search needs
-
-same-requires : tie.Need-same-requires
-same-requires c κs = search needs
-
 returns : tie.Need-returns
 returns c = c .same .ensures ∙ ap (λ (l : List ℕ). same l (now (c .before .before .before .before .args .x))) (c .before .part .ensures)
 
 pub begins-at-spec : {M : Type 1} → statement M
-begins-at-spec = tie.close (tie.spec part-requires same-requires returns)
+begins-at-spec = tie.close (tie.spec (λ c κs. search needs) (λ c κs. search needs) returns)

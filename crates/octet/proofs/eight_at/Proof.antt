@@ -8,9 +8,6 @@ use Rattle.octet.proofs.Lists.{part-short}
 use Rattle.octet.proofs.eight_at.Statement.{statement}
 use Rattle.octet.proofs.eight_at.Tie as tie
 
-part-requires : tie.Need-part-requires
-part-requires c κs = search needs
-
 number-requires : tie.Need-number-requires
 number-requires c κs = let a = c .before .before .args in omega (arith, part-short (a .at) 8 (now (a .s)) (c .part .ensures))
 
@@ -18,4 +15,4 @@ returns : tie.Need-returns
 returns c = c .number .ensures .0 ∙ ap bigEndian (c .before .part .ensures)
 
 pub eight-at-spec : {M : Type 1} → statement M
-eight-at-spec = tie.close (tie.spec part-requires number-requires returns)
+eight-at-spec = tie.close (tie.spec (λ c κs. search needs) number-requires returns)

@@ -10,9 +10,6 @@ use Rattle.octet.proofs.Places.{below-pow}
 use Rattle.octet.proofs.four_at.Statement.{statement}
 use Rattle.octet.proofs.four_at.Tie as tie
 
-part-requires : tie.Need-part-requires
-part-requires c κs = search needs
-
 number-requires : tie.Need-number-requires
 number-requires c κs = let a = c .before .before .args in omega (arith, part-short (a .at) 4 (now (a .s)) (c .part .ensures))
 
@@ -25,4 +22,4 @@ returns : tie.Need-returns
 returns c = c .number .ensures .0 ∙ ap bigEndian (c .before .part .ensures)
 
 pub four-at-spec : {M : Type 1} → statement M
-four-at-spec = tie.close (tie.spec part-requires number-requires cast-result returns)
+four-at-spec = tie.close (tie.spec (λ c κs. search needs) number-requires cast-result returns)

@@ -18,14 +18,8 @@ Inv-loop s v₀ i₀ v i = (i ≤ length s) × (valueOf 256 0 v (drop i s) ≡ v
 abbrev μ-loop : tie.MeasureT-loop
 μ-loop s v₀ i₀ v i = length s - i
 
-loop-holds : tie.Need-loop-holds Inv-loop μ-loop
-loop-holds c = search needs
-
 mul-v : tie.Need-mul-v Inv-loop μ-loop
 mul-v c = omega (arith, below-pow 256 7 {i = c .before .loop .i} (search needs) (c .before .loop .inv .2) (omega arith))
-
-shared-slice-read-v : tie.Need-shared-slice-read-v Inv-loop μ-loop
-shared-slice-read-v c = search needs
 
 cast-v : tie.Need-cast-v Inv-loop μ-loop
 cast-v c = omega (arith, c .shared-slice-known .given (c .before .before .loop .i))
@@ -34,12 +28,6 @@ add-v : tie.Need-add-v Inv-loop μ-loop
 add-v c =
     let k = c .before .before in
     omega (arith, below-pow 256 7 {i = k .loop .i} (search needs) (k .loop .inv .2) (omega arith), c .shared-slice-known .given (k .loop .i))
-
-add-i : tie.Need-add-i Inv-loop μ-loop
-add-i c = search needs
-
-loop-less : tie.Need-loop-less Inv-loop μ-loop
-loop-less c = search needs
 
 loop-again : tie.Need-loop-again Inv-loop μ-loop
 loop-again c =
@@ -66,12 +54,12 @@ number-spec =
     (tie.spec
     Inv-loop
     μ-loop
-    loop-holds
+    (λ c. search needs)
     mul-v
-    shared-slice-read-v
+    (λ c. search needs)
     cast-v
     add-v
-    add-i
-    loop-less
+    (λ c. search needs)
+    (λ c. search needs)
     loop-again
     returns)

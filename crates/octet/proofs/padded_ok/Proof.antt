@@ -9,20 +9,11 @@ use Rattle.octet.proofs.Padded.{ok-too-short, ok-too-long, ok-no-text, 
 use Rattle.octet.proofs.padded_ok.Statement.{statement}
 use Rattle.octet.proofs.padded_ok.Tie as tie
 
-byte-at-requires : tie.Need-byte-at-requires
-byte-at-requires c κs = search needs
-
-cast-n : tie.Need-cast-n
-cast-n c = search needs
-
 returns : tie.Need-returns
 returns c =
     let k = c .before in
     let a = k .before .before .args in
     sym (ok-too-short (a .least) (a .low) (a .high) (now (a .f)) (k .byte-at .result) (k .byte-at .ensures) (c .if1 .taken))
-
-last-requires : tie.Need-last-requires
-last-requires c κs = search needs
 
 returns-2 : tie.Need-returns-2
 returns-2 c =
@@ -30,27 +21,12 @@ returns-2 c =
     let a = k .before .before .args in
     sym (ok-too-long (a .least) (a .low) (a .high) (now (a .f)) (k .byte-at .result) (k .byte-at .ensures) (omega (arith, c .if2 .taken, c .before .last .ensures)))
 
-text-of-requires : tie.Need-text-of-requires
-text-of-requires c κs = search needs
-
-all-in-requires : tie.Need-all-in-requires
-all-in-requires c κs = search needs
-
 returns-3 : tie.Need-returns-3
 returns-3 c =
     let k = c .before .before .before .before .before .before in
     let a = k .before .before .args in
     let e = sym (ap (allIn (a .low) (a .high)) (c .before .before .text-of .ensures)) ∙ sym (c .before .all-in .ensures) ∙ not-true (c .before .all-in .result) (c .if3 .taken) in
     sym (ok-no-text (a .least) (a .low) (a .high) (now (a .f)) (k .byte-at .result) (k .byte-at .ensures) e)
-
-add-part : tie.Need-add-part
-add-part c = search needs
-
-part-requires : tie.Need-part-requires
-part-requires c κs = search needs
-
-all-in-requires-2 : tie.Need-all-in-requires-2
-all-in-requires-2 c κs = search needs
 
 returns-4 : tie.Need-returns-4
 returns-4 c =
@@ -65,15 +41,15 @@ pub padded-ok-spec : {M : Type 1} → statement M
 padded-ok-spec =
     tie.close
     (tie.spec
-    byte-at-requires
-    cast-n
+    (λ c κs. search needs)
+    (λ c. search needs)
     returns
-    last-requires
+    (λ c κs. search needs)
     returns-2
-    text-of-requires
-    all-in-requires
+    (λ c κs. search needs)
+    (λ c κs. search needs)
     returns-3
-    add-part
-    part-requires
-    all-in-requires-2
+    (λ c. search needs)
+    (λ c κs. search needs)
+    (λ c κs. search needs)
     returns-4)

@@ -27,9 +27,6 @@ returns c =
     let h : length (now (a .dst)) < a .at + length (high (a .width) (a .n)) = omega (arith, number-length HighFirst (a .width) (a .n)) in
     (sym (fits-false (now (a .dst)) (a .at) (high (a .width) (a .n)) h), sym (splice-out (now (a .dst)) (a .at) (high (a .width) (a .n)) h))
 
-sub-if2 : tie.Need-sub-if2 Inv-loop μ-loop
-sub-if2 c = search needs
-
 returns-2 : tie.Need-returns-2 Inv-loop μ-loop
 returns-2 c =
     let a = c .before .before .args in
@@ -40,21 +37,6 @@ loop-holds : tie.Need-loop-holds Inv-loop μ-loop
 loop-holds c =
     let a = c .before .before .args in
     (search needs, search needs, div-start 256 (a .width) (a .n), put-start 256 0 (now (a .dst)) (a .at) (a .width) (a .n))
-
-sub-left : tie.Need-sub-left Inv-loop μ-loop
-sub-left c = search needs
-
-cast-dst : tie.Need-cast-dst Inv-loop μ-loop
-cast-dst c = omega arith
-
-add-dst : tie.Need-add-dst Inv-loop μ-loop
-add-dst c = omega arith
-
-slice-write-dst : tie.Need-slice-write-dst Inv-loop μ-loop
-slice-write-dst c = omega arith
-
-loop-less : tie.Need-loop-less Inv-loop μ-loop
-loop-less c = omega arith
 
 loop-again : tie.Need-loop-again Inv-loop μ-loop
 loop-again c =
@@ -89,14 +71,14 @@ put-number-spec =
     Inv-loop
     μ-loop
     returns
-    sub-if2
+    (λ c. search needs)
     returns-2
     loop-holds
-    sub-left
-    cast-dst
-    add-dst
-    slice-write-dst
-    loop-less
+    (λ c. search needs)
+    (λ c. omega arith)
+    (λ c. omega arith)
+    (λ c. omega arith)
+    (λ c. omega arith)
     loop-again
     same-length
     returns-3)

@@ -26,34 +26,10 @@ returns-3 c =
     let a = c .before .before .before .before .before .args in
     put-no-room (now (a .dst)) (a .at) (a .width) (now (a .t)) (fits-width (a .width) (now (a .t)) (search needs) (search needs)) (omega arith)
 
-sub-if4 : tie.Need-sub-if4
-sub-if4 c = search needs
-
 returns-4 : tie.Need-returns-4
 returns-4 c =
     let a = c .before .before .before .before .before .before .args in
     put-no-room (now (a .dst)) (a .at) (a .width) (now (a .t)) (fits-width (a .width) (now (a .t)) (search needs) (search needs)) (omega arith)
-
-cast-dst : tie.Need-cast-dst
-cast-dst c = search needs
-
-slice-write-dst : tie.Need-slice-write-dst
-slice-write-dst c = search needs
-
-add-text : tie.Need-add-text
-add-text c = search needs
-
-copy-into-requires : tie.Need-copy-into-requires
-copy-into-requires c κs = search needs
-
-add-put-zeros : tie.Need-add-put-zeros
-add-put-zeros c = search needs
-
-sub-put-zeros : tie.Need-sub-put-zeros
-sub-put-zeros c = search needs
-
-sub-put-zeros-2 : tie.Need-sub-put-zeros-2
-sub-put-zeros-2 c = search needs
 
 put-zeros-requires : tie.Need-put-zeros-requires
 put-zeros-requires c κs =
@@ -88,15 +64,15 @@ put-padded-spec =
     returns
     returns-2
     returns-3
-    sub-if4
+    (λ c. search needs)
     returns-4
-    cast-dst
-    slice-write-dst
-    add-text
-    copy-into-requires
-    add-put-zeros
-    sub-put-zeros
-    sub-put-zeros-2
+    (λ c. search needs)
+    (λ c. search needs)
+    (λ c. search needs)
+    (λ c κs. search needs)
+    (λ c. search needs)
+    (λ c. search needs)
+    (λ c. search needs)
     put-zeros-requires
     same-length
     returns-5)

@@ -15,12 +15,6 @@ Inv-loop s low high i₀ i = (i ≤ length s) × (runIn low high s ≡ i + runIn
 abbrev μ-loop : tie.MeasureT-loop
 μ-loop s low high i₀ i = length s - i
 
-loop-holds : tie.Need-loop-holds Inv-loop μ-loop
-loop-holds c = search needs
-
-shared-slice-read-b : tie.Need-shared-slice-read-b Inv-loop μ-loop
-shared-slice-read-b c = search needs
-
 returns : tie.Need-returns Inv-loop μ-loop
 returns c =
     let k = c .before .before .before in
@@ -32,12 +26,6 @@ returns-2 c =
     let k = c .before .before .before .before in
     let a = k .before .args in
     omega (arith, run-stop (a .low) (a .high) (a .s .now) (k .loop .i) (search needs) (is-above (a .low) (a .high) _ (c .if2 .taken)))
-
-add-i : tie.Need-add-i Inv-loop μ-loop
-add-i c = search needs
-
-loop-less : tie.Need-loop-less Inv-loop μ-loop
-loop-less c = search needs
 
 loop-again : tie.Need-loop-again Inv-loop μ-loop
 loop-again c =
@@ -58,11 +46,11 @@ run-in-spec =
     (tie.spec
     Inv-loop
     μ-loop
-    loop-holds
-    shared-slice-read-b
+    (λ c. search needs)
+    (λ c. search needs)
     returns
     returns-2
-    add-i
-    loop-less
+    (λ c. search needs)
+    (λ c. search needs)
     loop-again
     returns-3)

@@ -11,13 +11,10 @@ returns c =
     let a = c .before .before .before .args in
     sym (length-differs (now (a .a)) (now (a .b)) (c .if1 .taken))
 
-agree-requires : tie.Need-agree-requires
-agree-requires c κs = search needs
-
 returns-2 : tie.Need-returns-2
 returns-2 c =
     let a = c .before .before .before .before .args in
     c .agree .ensures ∙ agree-same (now (a .a)) (now (a .b)) (c .before .if1 .left)
 
 pub same-spec : {M : Type 1} → statement M
-same-spec = tie.close (tie.spec returns agree-requires returns-2)
+same-spec = tie.close (tie.spec returns (λ c κs. search needs) returns-2)

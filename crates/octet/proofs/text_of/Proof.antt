@@ -8,15 +8,6 @@ use Rattle.octet.specs.Padded.{textOf}
 use Rattle.octet.proofs.text_of.Statement.{statement}
 use Rattle.octet.proofs.text_of.Tie as tie
 
-byte-at-requires : tie.Need-byte-at-requires
-byte-at-requires c κs = search needs
-
-cast-part : tie.Need-cast-part
-cast-part c = search needs
-
-part-requires : tie.Need-part-requires
-part-requires c κs = search needs
-
 returns : tie.Need-returns
 unfolding textOf
 returns c =
@@ -24,4 +15,4 @@ returns c =
     c .part .ensures ∙ ap (λ (n : ℕ). part 1 n f) (c .before .byte-at .ensures)
 
 pub text-of-spec : {M : Type 1} → statement M
-text-of-spec = tie.close (tie.spec byte-at-requires cast-part part-requires returns)
+text-of-spec = tie.close (tie.spec (λ c κs. search needs) (λ c. search needs) (λ c κs. search needs) returns)

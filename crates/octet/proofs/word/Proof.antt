@@ -6,24 +6,9 @@ use borrow.Author.Needs.{needs}
 use Rattle.octet.proofs.word.Statement.{statement}
 use Rattle.octet.proofs.word.Tie as tie
 
-four-requires : tie.Need-four-requires
-four-requires c κs = search needs
-
-add-four : tie.Need-add-four
-add-four c = search needs
-
-four-requires-2 : tie.Need-four-requires-2
-four-requires-2 c κs = search needs
-
-mul-result : tie.Need-mul-result
-mul-result c = search needs
-
-add-result : tie.Need-add-result
-add-result c = search needs
-
 returns : tie.Need-returns
 returns c = let a = c .before .before .before .args in omega (arith, low-eight (now (a .s)) (a .i) (search needs))
 
 pub word-spec : {M : Type 1} → statement M
 word-spec =
-    tie.close (tie.spec four-requires add-four four-requires-2 mul-result add-result returns)
+    tie.close (tie.spec (λ c κs. search needs) (λ c. search needs) (λ c κs. search needs) (λ c. search needs) (λ c. search needs) returns)
