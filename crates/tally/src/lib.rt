@@ -1,8 +1,96 @@
 // The tally: what the messages of a line came to, in four counts.
+use answer::Outcome;
+ghost use mathlib.Core.Path.{_≡_};
+ghost use Rattle.tally.specs.Tally.{up, none-yet, oneBooked, oneAlready, oneRejected, oneGarbled, tallied};
 
 pub struct Tally {
     pub booked: u32,
     pub already: u32,
     pub rejected: u32,
     pub garbled: u32,
+}
+
+// One more; a count stops at its last number.
+fn up(n: u32) -> u32
+    ensures { λ r. ⌜ r ≡ up n ⌝ }
+{
+    if n < 4294967295 { n + 1 } else { n }
+}
+
+impl Tally {
+    pub fn new() -> Tally
+        ensures { λ r. ⌜ r ≡ none-yet ⌝ }
+    {
+        Tally {
+            booked: 0,
+            already: 0,
+            rejected: 0,
+            garbled: 0,
+        }
+    }
+
+    pub fn one_booked(self) -> Tally
+        ensures { λ r. ⌜ r ≡ oneBooked self ⌝ }
+    {
+        Tally {
+            booked: up(self.booked),
+            already: self.already,
+            rejected: self.rejected,
+            garbled: self.garbled,
+        }
+    }
+
+    pub fn one_already(self) -> Tally
+        ensures { λ r. ⌜ r ≡ oneAlready self ⌝ }
+    {
+        Tally {
+            booked: self.booked,
+            already: up(self.already),
+            rejected: self.rejected,
+            garbled: self.garbled,
+        }
+    }
+
+    pub fn one_rejected(self) -> Tally
+        ensures { λ r. ⌜ r ≡ oneRejected self ⌝ }
+    {
+        Tally {
+            booked: self.booked,
+            already: self.already,
+            rejected: up(self.rejected),
+            garbled: self.garbled,
+        }
+    }
+
+    pub fn one_garbled(self) -> Tally
+        ensures { λ r. ⌜ r ≡ oneGarbled self ⌝ }
+    {
+        Tally {
+            booked: self.booked,
+            already: self.already,
+            rejected: self.rejected,
+            garbled: up(self.garbled),
+        }
+    }
+
+    // The tally after a framed message, by what became of it.
+    pub fn after(self, outcome: Outcome) -> Tally
+        ensures { λ r. ⌜ r ≡ tallied outcome self ⌝ }
+    {
+        match outcome {
+            Outcome::Booked(_, _) => self.one_booked(),
+            Outcome::Already => self.one_already(),
+            Outcome::Rejected(_) => self.one_rejected(),
+            Outcome::RejectedEnded(_) => self.one_rejected(),
+            Outcome::Ended => self,
+            Outcome::Dropped => self,
+            Outcome::Gap => self,
+            Outcome::In => self,
+            Outcome::Heard => self,
+            Outcome::Echoed => self,
+            Outcome::Filled => self,
+            Outcome::Moved(_) => self,
+            Outcome::Aside => self,
+        }
+    }
 }

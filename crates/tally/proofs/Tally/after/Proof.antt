@@ -1,0 +1,91 @@
+use borrow.Author.Needs.{needs}
+use Rattle.tally.specs.Tally.{tallied}
+use Rattle.tally.proofs.Tally.after.Statement.{statement}
+use Rattle.tally.proofs.Tally.after.Tie as tie
+
+returns : tie.Need-returns
+unfolding tallied
+returns c = rw (c .before .enum-told .given .1) (c .one-booked .ensures)
+
+returns-2 : tie.Need-returns-2
+unfolding tallied
+returns-2 c = rw (c .before .enum-told2 .given .1) (c .one-already .ensures)
+
+returns-3 : tie.Need-returns-3
+unfolding tallied
+returns-3 c = rw (c .before .enum-told3 .given .1) (c .one-rejected .ensures)
+
+returns-4 : tie.Need-returns-4
+unfolding tallied
+returns-4 c = rw (c .before .enum-told4 .given .1) (c .one-rejected2 .ensures)
+
+returns-5 : tie.Need-returns-5
+unfolding tallied
+returns-5 c = rw (c .enum-told5 .given .1)
+
+returns-6 : tie.Need-returns-6
+unfolding tallied
+returns-6 c = rw (c .enum-told6 .given .1)
+
+returns-7 : tie.Need-returns-7
+unfolding tallied
+returns-7 c = rw (c .enum-told7 .given .1)
+
+returns-8 : tie.Need-returns-8
+unfolding tallied
+returns-8 c = rw (c .enum-told8 .given .1)
+
+returns-9 : tie.Need-returns-9
+unfolding tallied
+returns-9 c = rw (c .enum-told9 .given .1)
+
+returns-10 : tie.Need-returns-10
+unfolding tallied
+returns-10 c = rw (c .enum-told10 .given .1)
+
+returns-11 : tie.Need-returns-11
+unfolding tallied
+returns-11 c = rw (c .enum-told11 .given .1)
+
+returns-12 : tie.Need-returns-12
+unfolding tallied
+returns-12 c = rw (c .enum-told12 .given .1)
+
+returns-13 : tie.Need-returns-13
+unfolding tallied
+returns-13 c = rw (c .enum-told13 .given .1)
+
+pub after-spec : {M : Type 1} → statement M
+after-spec =
+    tie.close
+    (tie.spec
+    (λ c. search needs)
+    (λ c κs. search needs)
+    (λ c. search needs)
+    (λ c κs. search needs)
+    (λ c. search needs)
+    (λ c κs. search needs)
+    (λ c. search needs)
+    (λ c κs. search needs)
+    (λ c. search needs)
+    (λ c. search needs)
+    (λ c. search needs)
+    (λ c. search needs)
+    (λ c. search needs)
+    (λ c. search needs)
+    (λ c. search needs)
+    (λ c. search needs)
+    (λ c. search needs)
+    returns
+    returns-2
+    returns-3
+    returns-4
+    returns-5
+    returns-6
+    returns-7
+    returns-8
+    returns-9
+    returns-10
+    returns-11
+    returns-12
+    returns-13)

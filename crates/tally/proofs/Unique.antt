@@ -1,0 +1,15 @@
+-- No second answer satisfies a promise of this crate: each is one equation.
+use mathlib.Core.Path.{_≡_, sym, _∙_}
+use Rattle.tally.specs.Tally.{tallied, oneBooked, oneAlready, oneRejected, oneGarbled, none-yet}
+use Rattle.tally.specs.declared.Tally.{Tally}
+use Rattle.answer.specs.declared.Outcome.{Outcome}
+
+pub new-once : {r r′ : Tally} → r ≡ none-yet → r′ ≡ none-yet → r ≡ r′
+new-once p q = p ∙ sym q
+
+-- the four counts: one_booked, one_already, one_rejected, one_garbled
+pub count-once : (count : Tally → Tally) (t : Tally) {r r′ : Tally} → r ≡ count t → r′ ≡ count t → r ≡ r′
+count-once count t p q = p ∙ sym q
+
+pub after-once : (o : Outcome) (t : Tally) {r r′ : Tally} → r ≡ tallied o t → r′ ≡ tallied o t → r ≡ r′
+after-once o t p q = p ∙ sym q
