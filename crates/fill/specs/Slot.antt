@@ -25,6 +25,10 @@ pub record Fill : Type 0 where
   pub cum : ℕ
   pub time : List ℕ
 
+abbrev pub fillOf : List ℕ → List ℕ → List ℕ → ℕ → ℕ → ℕ → ℕ → ℕ → List ℕ → Fill
+fillOf exec order symbol side quantity shares price cum time =
+    record { exec = exec; order = order; symbol = symbol; side = side; quantity = quantity; shares = shares; price = price; cum = cum; time = time }
+
 -- ---- the body: "ExecID 21, OrderID 21, symbol 9, side 1 (a number), OrderQty 4, LastShares 4, price 8, CumQty 4, time (60) 21"
 
 abbrev pub widths : List ℕ
@@ -57,10 +61,14 @@ fullTime t = cond (eqb (length t) 17) (t ++ bytesOf ".000") t
 abbrev pub timeField : ℕ → List ℕ → List ℕ
 timeField width t = take width (fullTime t ++ replicate width 0)
 
-unfoldable pub bodyOf : Fill → List ℕ
-bodyOf f = joined (
+-- the parts of the body, in order
+abbrev pub partsOf : Fill → List (List ℕ)
+partsOf f =
     textField (widthOf 0) (f .exec) ∷ textField (widthOf 1) (f .order) ∷ textField (widthOf 2) (f .symbol) ∷ high (widthOf 3) (f .side)
-    ∷ high (widthOf 4) (f .quantity) ∷ high (widthOf 5) (f .shares) ∷ high (widthOf 6) (f .price) ∷ high (widthOf 7) (f .cum) ∷ timeField (widthOf 8) (f .time) ∷ [])
+    ∷ high (widthOf 4) (f .quantity) ∷ high (widthOf 5) (f .shares) ∷ high (widthOf 6) (f .price) ∷ high (widthOf 7) (f .cum) ∷ timeField (widthOf 8) (f .time) ∷ []
+
+unfoldable pub bodyOf : Fill → List ℕ
+bodyOf f = joined (partsOf f)
 
 -- the first byte of a slot says fill
 abbrev pub fillMark : ℕ
@@ -112,13 +120,15 @@ timeOf s = field 8 s
 abbrev pub textLawful : List ℕ → Bool
 textLawful t = paddedOk 1 33 126 t
 
+abbrev pub textsLawful : Slot → Bool
+textsLawful s = textLawful (execOf s) && textLawful (orderOf s) && textLawful (symbolOf s)
+
 abbrev pub sumsLawful : Slot → Bool
 sumsLawful s = leb 1 (sharesOf s) && leb (sharesOf s) (cumOf s) && leb (cumOf s) (quantityOf s) && leb (quantityOf s) 999999
 
 unfoldable pub slotLawful : Slot → Bool
 slotLawful s =
-    textLawful (execOf s) && textLawful (orderOf s) && textLawful (symbolOf s) && between 1 2 (sideOf s)
-    && sumsLawful s && leb (priceOf s) 99999999999 && isTime (timeOf s)
+    textsLawful s && between 1 2 (sideOf s) && sumsLawful s && leb (priceOf s) 99999999999 && isTime (timeOf s)
 
 -- ---- "number, ExecID, OrderID, symbol, side, LastShares, price with four decimals, time, single spaces"
 

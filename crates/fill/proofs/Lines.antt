@@ -1,0 +1,100 @@
+-- A fill's line of the listing: how it is written word by word, and how long it is.
+--     line-short     a line has at most 128 bytes
+use mathlib.Core.Path.{_≡_, refl, sym, ap, _∙_}
+use mathlib.Core.List.{List, [], _∷_, _++_}
+use mathlib.Core.Logic.{⊎-elim}
+use mathlib.Core.Bool.{true, cond}
+use Prim.Native.Nat.{ℕ, suc, _+_, _≤_, _<_, _^_, _/_}
+use native.Mathlib.Nat.{zero-add, le-trans}
+use native.Mathlib.Omega.{arith}
+use lib.Dec.{lit<}
+use lib.ListN.{getD, List·getD-eq-default, length, take, drop, length-append, length-take, length-drop}
+use lib.Seq.{take-length, take-take}
+use Rattle.octet.specs.Bytes.{bytesOf, between, allIn, part}
+use Rattle.octet.specs.Places.{numberIn, bigEndian}
+use Rattle.octet.proofs.Cases.{le-or-lt, and-make}
+use Rattle.octet.proofs.Lists.{is-between, part-at}
+use Rattle.octet.proofs.Places.{below-pow, value-below}
+use Rattle.octet.specs.Splice.{splice, fitsAt}
+use Rattle.octet.specs.Padded.{textOf}
+use Rattle.text.specs.Decimal.{decimal, fixed, priceText}
+use Rattle.text.specs.Writing.{puts, held, empty}
+use Rattle.text.proofs.Decimals.{decimal-length, fixed-length}
+use Rattle.text.proofs.Puts.{puts-puts, held-short}
+use Rattle.text.specs.declared.Text.{Text}
+use Rattle.fill.specs.Slot.{Slot, execOf, orderOf, symbolOf, sideOf, sharesOf, priceOf, timeOf, lineOf}
+
+-- a space and a word more
+pub word-put : (t x y : Text) (w v : List ℕ) → x ≡ puts t (bytesOf " ") → w ≡ v → y ≡ puts x (take (length w) w) → y ≡ puts t (bytesOf " " ++ v)
+word-put t x y w v ex ew ey =
+    ey
+    ∙ ap (puts x) (take-length w ∙ ew)
+    ∙ ap (λ (z : Text). puts z v) ex
+    ∙ puts-puts t (bytesOf " ") v
+
+pub time-cut : (s : Slot) → take 21 (timeOf s) ≡ timeOf s
+time-cut s = take-take 21 21 (drop 73 s) (omega arith)
+
+-- ---- how long
+text-most : (width : ℕ) (f : List ℕ) → length f ≤ suc width → length (textOf f) ≤ width
+unfolding textOf
+text-most width f h = rw (length-take, length-drop) (omega arith)
+
+field-most : (at n : ℕ) (s : List ℕ) → length (part at n s) ≤ n
+field-most at n s = rw length-take (omega arith)
+
+price-most : (p : ℕ) → p < 256 ^ 8 → length (priceText p) ≤ 21
+unfolding priceText
+price-most p h =
+    let d = decimal-length 15 (p / 10000) (omega arith) in
+    simp (length-append, fixed-length) (omega arith)
+
+line-by : (n : ℕ) (s : Slot) → n < 256 ^ 4 → sideOf s < 256 → sharesOf s < 256 ^ 4 → priceOf s < 256 ^ 8 → length (lineOf n s) ≤ 121
+unfolding lineOf
+line-by n s hn hs hq hp =
+    let a = decimal-length 9 n (omega arith) in
+    let b = text-most 20 (execOf s) (field-most 1 21 s) in
+    let d = text-most 20 (orderOf s) (field-most 22 21 s) in
+    let e = text-most 8 (symbolOf s) (field-most 43 9 s) in
+    let f = decimal-length 2 (sideOf s) (omega arith) in
+    let g = decimal-length 9 (sharesOf s) (omega arith) in
+    let h = price-most (priceOf s) hp in
+    let i = field-most 73 21 s in
+    simp length-append (omega arith)
+
+-- numbers of bytes fit
+bytes-part : (at n : ℕ) (s : List ℕ) → ((i : ℕ) → getD s i 0 < 256) → (i : ℕ) → getD (part at n s) i 0 < 256
+bytes-part at n s h i =
+    ⊎-elim
+    (λ g. rw (List·getD-eq-default (part at n s) 0 {n = i} (le-trans (field-most at n s) g)) (omega arith))
+    (λ g. rw (part-at at n i s g) (h (at + i)))
+    (le-or-lt n i)
+
+bytes-in : (s : List ℕ) → ((i : ℕ) → getD s i 0 < 256) → allIn 0 255 s ≡ true
+bytes-in [] h = refl
+bytes-in (b ∷ s) h = and-make (between 0 255 b) (allIn 0 255 s) (is-between 0 255 b (omega arith) (omega (arith, h 0))) (bytes-in s (λ i. h (suc i)))
+
+number-most : (at n : ℕ) (s : List ℕ) → ((i : ℕ) → getD s i 0 < 256) → bigEndian (part at n s) < 256 ^ n
+unfolding numberIn
+number-most at n s h =
+    below-pow 256 n (lit< tt) (value-below 256 0 (lit< tt) 255 (lit< tt) (part at n s) (bytes-in (part at n s) (bytes-part at n s h))) (field-most at n s)
+
+-- a line has at most 128 bytes, whatever the bytes of the slot
+pub line-short : (n : ℕ) (s : Slot) → n < 256 ^ 4 → ((i : ℕ) → getD s i 0 < 256) → length (lineOf n s) ≤ 128
+line-short n s h b =
+    let e = line-by n s h (omega (arith, number-most 52 1 s b)) (number-most 57 4 s b) (number-most 61 8 s b) in
+    omega arith
+
+-- so a text holds it whole
+pub line-held : (n : ℕ) (s : Slot) → length (lineOf n s) ≤ 128 → held (puts empty (lineOf n s)) ≡ lineOf n s
+line-held n s h = held-short (lineOf n s) (omega arith)
+
+pub line-placed : (n : ℕ) (s : Slot) (line : List ℕ) (t : Text) (line′ : List ℕ) (r : ℕ) → n < 256 ^ 4 → ((i : ℕ) → getD s i 0 < 256) → t ≡ puts empty (lineOf n s)
+    → line′ ≡ splice line 0 (held t) → r ≡ cond (fitsAt line 0 (held t)) (0 + length (held t)) 0
+    → (line′ ≡ splice line 0 (lineOf n s)) × ((r ≡ cond (fitsAt line 0 (lineOf n s)) (length (lineOf n s)) 0) × (length (lineOf n s) ≤ 128))
+line-placed n s line t line′ r hn hs et el er =
+    let h = line-short n s hn hs in
+    let e : held t ≡ lineOf n s = ap held et ∙ line-held n s h in (
+      el ∙ ap (splice line 0) e,
+      (er ∙ ap (λ (k : ℕ). cond (fitsAt line 0 (held t)) k 0) (zero-add (length (held t))) ∙ ap (λ (x : List ℕ). cond (fitsAt line 0 x) (length x) 0) e, h),
+    )

@@ -1,0 +1,40 @@
+use native.Mathlib.Omega.{arith}
+use Prim.Native.Nat.{_<_}
+use mathlib.Core.Path.{refl, ap, _∙_}
+use Rattle.octet.specs.Splice.{splice}
+use Rattle.fill.proofs.Fields.{slot-made}
+use borrow.Author.Needs.{needs}
+use Rattle.fill.proofs.slot_with.Statement.{statement}
+use Rattle.fill.proofs.slot_with.Tie as tie
+
+returns : tie.Need-returns
+returns c =
+    let start = c .before .before .before .before .before .before .before .before .before .before .before .before .before .before .before .before .before .before .before .before .before .before .before .before .before .before .before .before .before .before in
+    let small : start .args .side < 256 = omega (arith, start .fits) in
+    slot-made _ _ _ _ _ _ _ _ _ _ _ refl small (c .before .before .before .before .before .before .before .before .before .before .before .before .before .before .before .before .before .before .before .before .before .before .before .before .put-text .ensures) (c .before .before .before .before .before .before .before .before .before .before .before .before .before .before .before .before .before .before .before .before .before .put-text2 .ensures) (c .before .before .before .before .before .before .before .before .before .before .before .before .before .before .before .before .before .before .put-text3 .ensures) refl (c .before .before .before .before .before .before .before .before .before .before .before .before .before .before .before .put-four .ensures .1) (c .before .before .before .before .before .before .before .before .before .before .before .before .put-four2 .ensures .1) (c .before .before .before .before .before .before .before .before .before .put-eight .ensures .1) (c .before .before .before .before .before .before .put-four3 .ensures .1) (c .before .copy-into .ensures .1 ∙ ap (splice _ 73) (c .before .before .before .time-field .ensures))
+
+pub slot-with-spec : {M : Type 1} → statement M
+slot-with-spec =
+    tie.close
+    (tie.spec
+    (λ c. search needs)
+    (λ c. search needs)
+    (λ c κs. search needs)
+    (λ c. search needs)
+    (λ c κs. search needs)
+    (λ c. search needs)
+    (λ c κs. search needs)
+    (λ c. search needs)
+    (λ c. search needs)
+    (λ c κs. search needs)
+    (λ c. search needs)
+    (λ c κs. search needs)
+    (λ c. search needs)
+    (λ c κs. search needs)
+    (λ c. search needs)
+    (λ c κs. search needs)
+    (λ c. search needs)
+    (λ c κs. search needs)
+    (λ c. search needs)
+    (λ c κs. search needs)
+    returns)
