@@ -2,3 +2,6 @@ pub mod Types
 pub mod Walks
 pub mod Faultless
 pub mod Messages
+pub mod Values
+pub mod IndexLaws
+pub mod Unique

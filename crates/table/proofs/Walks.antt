@@ -2,23 +2,24 @@
 use mathlib.Core.Path.{_≡_, refl, sym, ap, _∙_}
 use mathlib.Core.Bool.{Bool, true, false, cond}
 use mathlib.Core.List.{List, [], _∷_, _++_}
-use mathlib.Core.Option.{Option, none}
+use mathlib.Core.Option.{Option, none, some}
 use Prim.Native.Nat.{ℕ, zero, suc, _+_, _-_, _≤_, _<_}
 use native.Mathlib.Numerals.{add-one}
 use native.Mathlib.Omega.{arith}
-use lib.ListN.{length, getD, drop, drop-of-length-le, length-append, List·getD-append}
+use lib.ListN.{length, getD, replicate, drop, drop-of-length-le, length-append, List·getD-append}
 use lib.Seq.{drop-cons, getD-append-add}
 use lib.Dec.{ltb, lit≤}
 use borrow.Author.Tests.{ltb-true, ltb-false, lt-ltb, le-ltb}
 use Rattle.octet.specs.Maybe.{orElse}
 use Rattle.octet.proofs.Cases.{bool-ext}
+use Rattle.answer.specs.Numbers.{fault}
 use Rattle.answer.specs.declared.Kind.{Kind}
 use Rattle.answer.specs.declared.Kind.the-variants as kind
 use Rattle.table.specs.declared.Row.{Row}
 use Rattle.table.specs.declared.Cell.{Cell}
 use Rattle.table.specs.declared.Cell.the-variants.{Here, End}
 use Rattle.table.specs.Rows.{headerRows, rowsOf, cellOf, noRow}
-use Rattle.table.specs.Steps.{Look, rowFault, walk}
+use Rattle.table.specs.Steps.{Look, valueCheck, checkFault, rowFault, rowFaultAt, walk}
 
 -- ---- places
 
@@ -45,6 +46,26 @@ ended : (b : Bool) (r : Row) → cond b (Here r) End ≡ End → b ≡ false
 ended true r e = cc
 ended false r e = refl
 
+-- ---- one row, by a value and how often it is there
+
+module _ (o : ℕ) (f : ℕ → ℕ) (row : Row) (n : ℕ) (v : List ℕ) where
+  pub row-none : n ≡ 0 → rowFault o f row (replicate n v) ≡ cond (row .needed) (some (fault 1 (row .tag))) none
+  unfolding rowFault
+  row-none e = rw e
+
+  pub row-one : n ≡ 1 → rowFault o f row (replicate n v) ≡ checkFault (row .tag) (valueCheck o f (row .form) (row .range) v)
+  unfolding rowFault
+  row-one e = rw e
+
+  pub row-more : (n ≡ 0 → ⊥) → (n ≡ 1 → ⊥) → rowFault o f row (replicate n v) ≡ some (fault 5 (row .tag))
+  unfolding rowFault
+  row-more h g = by n h g
+    where
+      by : (m : ℕ) → (m ≡ 0 → ⊥) → (m ≡ 1 → ⊥) → rowFault o f row (replicate m v) ≡ some (fault 5 (row .tag))
+      by zero a b = absurd (a refl)
+      by (suc zero) a b = absurd (b refl)
+      by (suc (suc m)) a b = refl
+
 -- ---- the walk
 
 -- no table has more rows than a report's
@@ -65,7 +86,7 @@ module _ (rows : List Row) (i : ℕ) where
 
   module _ (o : ℕ) (look : Look) where
     pub walk-here : (r : Row) → cellOf rows i ≡ Here r
-        → walk o look (drop i rows) ≡ orElse (rowFault o (look .number) r (look .values (r .tag))) (walk o look (drop (i + 1) rows))
+        → walk o look (drop i rows) ≡ orElse (rowFaultAt o look r) (walk o look (drop (i + 1) rows))
     unfolding walk
     walk-here r e =
         let g : getD rows i noRow ≡ r = picked (ltb i (length rows)) _ r e .1 in

@@ -86,12 +86,15 @@ rowFault o number row [] = cond (row .needed) (some (fault 1 (row .tag))) none
 rowFault o number row (v ∷ []) = checkFault (row .tag) (valueCheck o number (row .form) (row .range) v)
 rowFault o number row (v ∷ w ∷ vs) = some (fault 5 (row .tag))
 
+abbrev pub rowFaultAt : ℕ → Look → Row → Option Fault
+rowFaultAt o look row = rowFault o (look .number) row (look .values (row .tag))
+
 -- "The table of its type, top down"
 unfoldable pub walk : ℕ → Look → List Row → Option Fault
 walk o look [] = none
 walk o look (row ∷ rows) =
     let rest = walk o look rows in
-    orElse (rowFault o (look .number) row (look .values (row .tag))) rest
+    orElse (rowFaultAt o look row) rest
 
 -- ---- steps 5, 6, 7
 

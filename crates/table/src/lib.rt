@@ -1,15 +1,26 @@
 // The table: of each type of message the tags after the header, with presence, form and range, and the walk that finds the first fault (steps 5 to 7).
-ghost use mathlib.Core.Path.{_≡_};
-ghost use mathlib.Core.List.{_++_};
-ghost use Rattle.table.specs.Rows.{headerRows, rowsOf, cellOf, kindOf};
-ghost use Rattle.table.specs.Steps.{faultOf, kindFault};
 use answer::Fault;
-ghost use Rattle.table.specs.Steps.{faultOf, kindFault};
 use answer::Kind;
-ghost use Rattle.table.specs.Steps.{faultOf, kindFault};
 use answer::Phase;
-ghost use Rattle.table.specs.Steps.{faultOf, kindFault};
 use answer::Setup;
+use field::Index;
+use field::Scan;
+use field::TAGS;
+use value::Check;
+use value::Number;
+use value::Price;
+ghost use mathlib.Core.Path.{_≡_};
+ghost use mathlib.Core.Bool.{true};
+ghost use mathlib.Core.List.{_++_};
+ghost use mathlib.Core.Option.{none, some};
+ghost use Prim.Native.Nat.{_≤_};
+ghost use Rattle.value.specs.Value.{badPrice};
+ghost use Rattle.value.specs.Readers.{checked};
+ghost use Rattle.answer.specs.Numbers.{fault};
+ghost use Rattle.table.specs.declared.Form.the-variants as form;
+ghost use Rattle.table.specs.Rows.{headerRows, rowsOf, cellOf, kindOf};
+ghost use Rattle.table.specs.Steps.{inRange, valueCheck, rowFaultAt, walk, kindFault, faultOf};
+ghost use Rattle.table.specs.Indexed.{numberIn, atIndex, faultBy};
 
 // The form of a value: digits; a price; a UTC time; a text of any bytes, and one of bytes 33 to 126; one of two bytes.
 pub enum Form {
@@ -322,22 +333,24 @@ pub fn kind_of(setup: Setup, t: &[u8]) -> Kind
     }
 }
 
+// A fault that is none of form.
+fn faulty(reason: u32, tag: u32) -> Judgement
+    ensures { λ r. ⌜ faultOf r ≡ some (fault reason tag) ⌝ }
+{
+    Judgement::Faulty(Fault { reason, tag, at: 0 })
+}
+
 // Step 6: "Type not listed, or A in phase 2 or 4: Reject 11".
 fn kind_fault(phase: Phase, kind: Kind) -> Judgement
     ensures { λ r. ⌜ faultOf r ≡ kindFault phase kind ⌝ }
 {
-    let not_taken = Judgement::Faulty(Fault {
-        reason: 11,
-        tag: 0,
-        at: 0,
-    });
     match kind {
         Kind::Logon => match phase {
             Phase::Out => Judgement::Fine,
             Phase::Sent => Judgement::Fine,
-            Phase::In => not_taken,
+            Phase::In => faulty(11, 0),
             Phase::Ended => Judgement::Fine,
-            Phase::Closing => not_taken,
+            Phase::Closing => faulty(11, 0),
         },
         Kind::Heartbeat => Judgement::Fine,
         Kind::Test => Judgement::Fine,
@@ -346,6 +359,217 @@ fn kind_fault(phase: Phase, kind: Kind) -> Judgement
         Kind::Logout => Judgement::Fine,
         Kind::Report => Judgement::Fine,
         Kind::Other => Judgement::Fine,
-        Kind::Unlisted => not_taken,
+        Kind::Unlisted => faulty(11, 0),
+    }
+}
+
+// The number of a tag, by the lists of the body's index.
+pub fn number_at<'a>(body: &[u8], start: &'a [usize; TAGS], len: &'a [usize; TAGS], tag: u32) -> u32
+    ensures { λ r. ⌜ r ≡ numberIn (now (body .entry)) (now (start .entry)) (now (len .entry)) tag ⌝ }
+    ensures { λ r. ⌜ r ≤ 999999999 ⌝ }
+{
+    value::number_of(field::value_at(body, start, len, tag))
+}
+
+// The same by the whole index.
+pub fn number_in(body: &[u8], ix: Index, tag: u32) -> u32
+    ensures { λ r. ⌜ r ≡ numberIn (now (body .entry)) (ix .start) (ix .len) tag ⌝ }
+    ensures { λ r. ⌜ r ≤ 999999999 ⌝ }
+{
+    number_at(body, &ix.start, &ix.len, tag)
+}
+
+// Whether a number, or a text's length, is in range.
+fn is_in_range<'a>(
+    body: &[u8],
+    start: &'a [usize; TAGS],
+    len: &'a [usize; TAGS],
+    o: u32,
+    range: Range,
+    n: usize,
+) -> bool
+    ensures { λ r. ⌜ r ≡ inRange o (numberIn (now (body .entry)) (now (start .entry)) (now (len .entry))) range n ⌝ }
+{
+    match range {
+        Range::Of(low, high) => {
+            if n < low as usize {
+                return false;
+            }
+            n <= high as usize
+        }
+        Range::Written => {
+            if n < 1 {
+                return false;
+            }
+            n < o as usize
+        }
+        Range::NoneOrFrom(tag) => {
+            if n == 0 {
+                return true;
+            }
+            number_at(body, start, len, tag) as usize <= n
+        }
+        Range::Any => true,
+    }
+}
+
+// A value of good form, by whether it is in range.
+fn fitted(fits: bool) -> Check
+    ensures { λ r. ⌜ r ≡ checked none fits ⌝ }
+{
+    if fits { Check::Good } else { Check::OutOfRange }
+}
+
+// A number of at most nine digits.
+const NUMBER_MOST: u32 = 999_999_999;
+
+// "Numbers have digits only, 1 to 9", and the range.
+fn judge_number<'a>(
+    body: &[u8],
+    start: &'a [usize; TAGS],
+    len: &'a [usize; TAGS],
+    o: u32,
+    range: Range,
+    v: &[u8],
+) -> Check
+    ensures { λ r. ⌜ r ≡ valueCheck o (numberIn (now (body .entry)) (now (start .entry)) (now (len .entry))) form.Number range (now (v .entry)) ⌝ }
+{
+    match value::read_number(v, 0, NUMBER_MOST) {
+        Number::Value(n) => fitted(is_in_range(body, start, len, o, range, n as usize)),
+        Number::BadForm(at) => Check::BadForm(at),
+        Number::OutOfRange => Check::OutOfRange,
+    }
+}
+
+// "all three of bytes 33 to 126", and the length.
+fn judge_graph<'a>(
+    body: &[u8],
+    start: &'a [usize; TAGS],
+    len: &'a [usize; TAGS],
+    o: u32,
+    range: Range,
+    v: &[u8],
+) -> Check
+    ensures { λ r. ⌜ r ≡ valueCheck o (numberIn (now (body .entry)) (now (start .entry)) (now (len .entry))) form.Graph range (now (v .entry)) ⌝ }
+{
+    match value::read_graph(v, 0, v.len()) {
+        Check::Good => fitted(is_in_range(body, start, len, o, range, v.len())),
+        Check::BadForm(at) => Check::BadForm(at),
+        Check::OutOfRange => Check::OutOfRange,
+    }
+}
+
+// A price has no range.
+fn judge_price(v: &[u8]) -> Check
+    ensures { λ r. ⌜ r ≡ checked (badPrice (now (v .entry))) true ⌝ }
+{
+    match value::read_price(v) {
+        Price::Value(_) => Check::Good,
+        Price::BadForm(at) => Check::BadForm(at),
+    }
+}
+
+// Whether a value is of its row's form and in its range.
+fn judge<'a>(
+    body: &[u8],
+    start: &'a [usize; TAGS],
+    len: &'a [usize; TAGS],
+    o: u32,
+    row: Row,
+    v: &[u8],
+) -> Check
+    ensures { λ r. ⌜ r ≡ valueCheck o (numberIn (now (body .entry)) (now (start .entry)) (now (len .entry))) (row .form) (row .range) (now (v .entry)) ⌝ }
+{
+    let form = row.form;
+    let range = row.range;
+    match form {
+        Form::Number => judge_number(body, start, len, o, range, v),
+        Form::Price => judge_price(v),
+        Form::Time => value::read_time(v),
+        Form::Text => fitted(is_in_range(body, start, len, o, range, v.len())),
+        Form::Graph => judge_graph(body, start, len, o, range, v),
+        Form::OneOf(a, b) => value::read_code(v, a, b),
+    }
+}
+
+// "each tag: missing 1, twice 5, bad form 6, out of range 5".
+fn row_fault<'a>(
+    body: &[u8],
+    start: &'a [usize; TAGS],
+    len: &'a [usize; TAGS],
+    count: &'a [u8; TAGS],
+    o: u32,
+    row: Row,
+) -> Judgement
+    ensures { λ r. ⌜ faultOf r ≡ rowFaultAt o (atIndex (now (body .entry)) (now (start .entry)) (now (len .entry)) (now (count .entry))) row ⌝ }
+{
+    let tag = row.tag;
+    let n = field::count_at(body, count, tag);
+    if n == 0 {
+        if row.needed {
+            return faulty(1, tag);
+        }
+        return Judgement::Fine;
+    }
+    if n != 1 {
+        return faulty(5, tag);
+    }
+    match judge(
+        body,
+        start,
+        len,
+        o,
+        row,
+        field::value_at(body, start, len, tag),
+    ) {
+        Check::Good => Judgement::Fine,
+        Check::BadForm(at) => Judgement::Faulty(Fault { reason: 6, tag, at }),
+        Check::OutOfRange => faulty(5, tag),
+    }
+}
+
+// "The table of its type, top down".
+fn walk<'a>(
+    body: &[u8],
+    start: &'a [usize; TAGS],
+    len: &'a [usize; TAGS],
+    count: &'a [u8; TAGS],
+    o: u32,
+    kind: Kind,
+) -> Judgement
+    ensures { λ r. ⌜ faultOf r ≡ walk o (atIndex (now (body .entry)) (now (start .entry)) (now (len .entry)) (now (count .entry))) (headerRows ++ rowsOf kind) ⌝ }
+{
+    let mut i: usize = 0;
+    loop {
+        let cell = row_at(kind, i);
+        let Cell::Here(row) = cell else {
+            return Judgement::Fine;
+        };
+        let here = row_fault(body, start, len, count, o, row);
+        if let Judgement::Faulty(found) = here {
+            return Judgement::Faulty(found);
+        }
+        i += 1;
+    }
+}
+
+// The tag of a message's type.
+const TYPE: u32 = 35;
+
+// Steps 5 to 7, by the body's index: the scan, the type, the table of the type.
+pub fn fault_in(setup: Setup, phase: Phase, o: u32, body: &[u8], ix: Index) -> Judgement
+    ensures { λ r. ⌜ faultOf r ≡ faultBy setup phase o (now (body .entry)) ix ⌝ }
+{
+    let scan = ix.scan;
+    match scan {
+        Scan::Malformed => faulty(0, 0),
+        Scan::Empty(tag) => faulty(4, tag),
+        Scan::Sound => {
+            let kind = kind_of(setup, field::value_at(body, &ix.start, &ix.len, TYPE));
+            match kind_fault(phase, kind) {
+                Judgement::Faulty(found) => Judgement::Faulty(found),
+                Judgement::Fine => walk(body, &ix.start, &ix.len, &ix.count, o, kind),
+            }
+        }
     }
 }

@@ -10,16 +10,16 @@ returns-2 : tie.Need-returns-2
 returns-2 c = rw (c .before .before .enum-told .given .1, c .enum-told3 .given .1)
 
 returns-3 : tie.Need-returns-3
-returns-3 c = rw (c .before .before .enum-told .given .1, c .enum-told4 .given .1)
+returns-3 c = rw (c .before .before .before .enum-told .given .1, c .before .enum-told4 .given .1) (c .faulty .ensures)
 
 returns-4 : tie.Need-returns-4
 returns-4 c = rw (c .before .before .enum-told .given .1, c .enum-told5 .given .1)
 
 returns-5 : tie.Need-returns-5
-returns-5 c = rw (c .before .before .enum-told .given .1, c .enum-told6 .given .1)
+returns-5 c = rw (c .before .before .before .enum-told .given .1, c .before .enum-told6 .given .1) (c .faulty2 .ensures)
 
 returns-13 : tie.Need-returns-13
-returns-13 c = rw (c .enum-told14 .given .1)
+returns-13 c = rw (c .before .enum-told14 .given .1) (c .faulty3 .ensures)
 
 pub kind-fault-spec : {M : Type 1} → statement M
 kind-fault-spec =
@@ -29,6 +29,10 @@ kind-fault-spec =
     (λ c. search needs)
     (λ c. search needs)
     (λ c. search needs)
+    (λ c κs. search needs)
+    (λ c. search needs)
+    (λ c. search needs)
+    (λ c κs. search needs)
     (λ c. search needs)
     (λ c. search needs)
     (λ c. search needs)
@@ -37,8 +41,7 @@ kind-fault-spec =
     (λ c. search needs)
     (λ c. search needs)
     (λ c. search needs)
-    (λ c. search needs)
-    (λ c. search needs)
+    (λ c κs. search needs)
     returns
     returns-2
     returns-3

@@ -1,0 +1,32 @@
+-- No second answer satisfies a promise of this crate.
+use mathlib.Core.Path.{_≡_, refl, sym, _∙_}
+use mathlib.Core.List.{List}
+use mathlib.Core.Option.{Option, none, some}
+use Prim.Native.Nat.{ℕ}
+use Rattle.field.specs.declared.Index.{Index}
+use Rattle.answer.specs.declared.Setup.{Setup}
+use Rattle.answer.specs.declared.Phase.{Phase}
+use Rattle.answer.specs.declared.Kind.{Kind}
+use Rattle.table.specs.declared.Judgement.{Judgement}
+use Rattle.table.specs.declared.Judgement.the-variants.{Fine, Faulty}
+use Rattle.table.specs.Rows.{kindOf}
+use Rattle.table.specs.Steps.{faultOf}
+use Rattle.table.specs.Indexed.{numberIn, faultBy}
+
+pub kind-of-once : (setup : Setup) (t : List ℕ) (r r′ : Kind) → r ≡ kindOf setup t → r′ ≡ kindOf setup t → r ≡ r′
+kind-of-once setup t r r′ p q = p ∙ sym q
+
+-- number_at, and number_in with the lists of its index
+pub number-once : (body start len : List ℕ) (tag : ℕ) (r r′ : ℕ) → r ≡ numberIn body start len tag → r′ ≡ numberIn body start len tag → r ≡ r′
+number-once body start len tag r r′ p q = p ∙ sym q
+
+-- a judgement is known by its fault
+pub fault-of-once : (r r′ : Judgement) → faultOf r ≡ faultOf r′ → r ≡ r′
+fault-of-once Fine Fine e = refl
+fault-of-once Fine (Faulty f) e = cc
+fault-of-once (Faulty f) Fine e = cc
+fault-of-once (Faulty f) (Faulty g) e = cc
+
+pub fault-in-once : (setup : Setup) (phase : Phase) (o : ℕ) (body : List ℕ) (ix : Index) (r r′ : Judgement)
+    → faultOf r ≡ faultBy setup phase o body ix → faultOf r′ ≡ faultBy setup phase o body ix → r ≡ r′
+fault-in-once setup phase o body ix r r′ p q = fault-of-once r r′ (p ∙ sym q)

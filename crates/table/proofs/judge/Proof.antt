@@ -1,0 +1,54 @@
+-- `table::judge` meets its contract: in each arm the form is known, and its reader answers.
+use borrow.Author.Needs.{needs}
+use mathlib.Core.Path.{_≡_, sym, ap, _∙_}
+use mathlib.Core.Option.{none}
+use Rattle.value.specs.Readers.{checked, timeChecked, codeChecked}
+use Rattle.table.specs.Steps.{badForm, fits}
+use Rattle.table.proofs.judge.Statement.{statement}
+use Rattle.table.proofs.judge.Tie as tie
+
+returns : tie.Need-returns
+returns c = rw (c .before .enum-told .given .1) (c .judge-number .ensures)
+
+returns-2 : tie.Need-returns-2
+unfolding badForm fits
+returns-2 c = rw (c .before .enum-told2 .given .1) (c .judge-price .ensures)
+
+returns-3 : tie.Need-returns-3
+unfolding badForm fits timeChecked
+returns-3 c = rw (c .before .enum-told3 .given .1) (c .read-time .ensures)
+
+returns-4 : tie.Need-returns-4
+unfolding badForm fits
+returns-4 c = rw (c .before .before .enum-told4 .given .1) (c .fitted .ensures ∙ ap (checked none) (c .before .is-in-range .ensures))
+
+returns-5 : tie.Need-returns-5
+returns-5 c = rw (c .before .enum-told5 .given .1) (c .judge-graph .ensures)
+
+returns-6 : tie.Need-returns-6
+unfolding badForm fits codeChecked
+returns-6 c = rw (c .before .before .form .given .1) (c .read-code .ensures)
+
+pub judge-spec : {M : Type 1} → statement M
+judge-spec =
+    tie.close
+    (tie.spec
+    (λ c. search needs)
+    (λ c κs. search needs)
+    (λ c. search needs)
+    (λ c κs. search needs)
+    (λ c. search needs)
+    (λ c κs. search needs)
+    (λ c. search needs)
+    (λ c κs. search needs)
+    (λ c κs. search needs)
+    (λ c. search needs)
+    (λ c κs. search needs)
+    (λ c. search needs)
+    (λ c κs. search needs)
+    returns
+    returns-2
+    returns-3
+    returns-4
+    returns-5
+    returns-6)
