@@ -6,12 +6,16 @@ use mathlib.Core.List.{List, [], _∷_, _++_}
 use mathlib.Core.Option.{Option, none, some}
 use mathlib.Core.Bool.{Bool, true, false, cond}
 use Rattle.octet.specs.Bytes.{bytesOf}
+use Rattle.frame.specs.Finding.{foundIn}
+use Rattle.frame.specs.declared.Found.{Found}
+use Rattle.frame.specs.declared.Found.the-variants.{Garbled, Framed}
 use Rattle.value.specs.Value.{isDay, numberOn}
 use Rattle.value.specs.Readers.{priceRead, priceReason, timeChecked, checkReason}
 use Rattle.value.specs.declared.Price.the-variants.{Value}
 
 -- a case: what is read or judged, and what it gives
 pub data Case : Type 0 where
+  message : String → Found → Case
   price : String → ℕ → Case
   noPrice : String → ℕ → Case
   day : String → Bool → Case
@@ -23,6 +27,7 @@ DayIs s is =
     × (checkReason (timeChecked (s ++ bytesOf "-00:00:00")) ≡ cond is none (some 5))
 
 abbrev pub Holds : Case → Type 0
+Holds (message t found) = foundIn (bytesOf t) ≡ found
 Holds (price t p) = priceRead (bytesOf t) ≡ Value p
 Holds (noPrice t reason) = priceReason (priceRead (bytesOf t)) ≡ some reason
 Holds (day t is) = DayIs (bytesOf t) is
@@ -33,7 +38,11 @@ All (c ∷ cs) = Holds c × All cs
 
 abbrev pub cases : List Case
 cases =
-    price "1.05" 10500
+    message "8=FIX.4.2|9=5|35=0|10=161|" (Framed 26)
+    ∷ message "8=FIX.4.2|9=5|35=0|10=162|" (Garbled 26)
+    ∷ message "8=FIX.4.2|9=05|35=0|10=209|" (Framed 27)
+    ∷ message "8=FIX.4.2|9=05|35=0|10=161|" (Garbled 27)
+    ∷ price "1.05" 10500
     ∷ noPrice "5." 6
     ∷ day "20240229" true
     ∷ day "20230229" false
