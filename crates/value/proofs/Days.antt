@@ -1,16 +1,14 @@
 -- The days of a month: the table of a common year agrees with the definition, by one computed test; and what a day is.
-use mathlib.Core.Path.{_≡_, refl, sym, ap, _∙_}
+use mathlib.Core.Path.{_≡_, refl, ap, _∙_}
 use mathlib.Core.List.{List, [], _∷_}
-use mathlib.Core.Bool.{Bool, true, false, cond, _&&_, _||_}
-use Prim.Native.Nat.{ℕ, suc, _+_, _-_, _≤_, _<_}
+use mathlib.Core.Bool.{Bool, true, false, cond, _||_}
+use Prim.Native.Nat.{ℕ, _+_, _-_, _≤_}
 use native.Mathlib.Omega.{arith}
-use lib.ListN.{length, getD}
-use lib.Dec.{leb, eqb}
-use borrow.Author.Tests.{eq-eqb, ne-eqb, eqb-true, le-leb, lt-leb}
-use Rattle.octet.specs.Bytes.{between}
-use Rattle.octet.proofs.Cases.{cond-true, cond-false}
-use Rattle.value.specs.Value.{leap, daysIn, isDay}
-use Rattle.value.proofs.Table.{every, at-each}
+use lib.ListN.{getD}
+use lib.Dec.{eqb}
+use borrow.Author.Tests.{ne-eqb, eqb-true}
+use Rattle.value.specs.Value.{leap, daysIn}
+use Rattle.value.proofs.Table.{at-each}
 
 -- the days of the months of a common year, from the first on
 abbrev pub months : List ℕ

@@ -3,19 +3,18 @@
 --     numeral, numeral-formed     a value is well formed as a number exactly where it is of digits only, 1 to 9
 --     number-read     a numeral in range is read
 --     number-or, number-or-small     the number of a well-formed value, and its bound
-use mathlib.Core.Path.{_≡_, refl, sym, ap, _∙_, subst}
-use mathlib.Core.List.{List, append-nil}
+use mathlib.Core.Path.{_≡_, refl, sym, ap, _∙_}
+use mathlib.Core.List.{List}
 use mathlib.Core.Option.{Option, none, some}
 use mathlib.Core.Bool.{Bool, true, false, cond}
 use Prim.Native.Nat.{ℕ, _≤_, _<_, _^_, min}
-use native.Mathlib.Nat.{min-le-right}
 use native.Mathlib.Omega.{arith}
 use lib.ListN.{length, take}
-use lib.Seq.{take-all, take-length, length-take-le}
+use lib.Seq.{take-all, length-take-le}
 use lib.Dec.{lit<, leb}
 use borrow.Author.Tests.{le-leb, lt-leb, eq-eqb, leb-true}
 use Rattle.octet.specs.Bytes.{between, allIn}
-use Rattle.octet.proofs.Cases.{of-cond, cond-true, cond-false}
+use Rattle.octet.proofs.Cases.{cond-true, cond-false}
 use Rattle.octet.proofs.Places.{below-pow}
 use Rattle.octet.proofs.Lists.{is-between, is-below, is-above, between-low, between-high, run-all, run-is-all, run-most}
 use Rattle.text.specs.Decimal.{digits, digitRun, digitsTaken, digitsAtFront}

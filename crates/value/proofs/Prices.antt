@@ -4,9 +4,9 @@
 --     price-parts     digits, a point and digits are a price, and which
 use mathlib.Core.Path.{_≡_, refl, sym, ap, _∙_, subst}
 use mathlib.Core.Logic.{⊎-elim}
-use mathlib.Core.List.{List, [], _∷_, _++_}
+use mathlib.Core.List.{List, _∷_, _++_}
 use mathlib.Core.Option.{Option, none, some}
-use mathlib.Core.Bool.{Bool, true, false, cond, _&&_}
+use mathlib.Core.Bool.{Bool, true, false, cond}
 use Prim.Native.Nat.{ℕ, suc, _+_, _-_, _*_, _^_, _≤_, _<_, min}
 use native.Mathlib.Nat.{add-zero, one-le-pow, mul-lt-mul-of-pos-right}
 use native.Mathlib.Omega.{arith}
@@ -14,8 +14,8 @@ use lib.ListN.{length, take, drop, getD, length-append, List·getD-eq-default}
 use lib.Seq.{take-append-seam, drop-append-add, getD-append-seam, take-length}
 use lib.Dec.{lit<, leb, eqb}
 use lib.Pow.{pow-add}
-use borrow.Author.Tests.{le-leb, lt-leb, eq-eqb, eqb-true}
-use Rattle.octet.specs.Bytes.{allIn, part}
+use borrow.Author.Tests.{le-leb, eq-eqb, eqb-true}
+use Rattle.octet.specs.Bytes.{allIn}
 use Rattle.octet.proofs.Cases.{of-cond, le-or-lt, and-right, and-make}
 use Rattle.octet.proofs.Lists.{run-all, run-before}
 use Rattle.text.specs.Decimal.{digits, digitRun, digitsAtFront}

@@ -6,18 +6,18 @@
 use mathlib.Core.Path.{_≡_, refl, sym, ap, _∙_}
 use mathlib.Core.Logic.{_⊎_, inl, inr, ⊎-elim}
 use mathlib.Core.List.{List, [], _∷_}
-use mathlib.Core.Option.{Option, none, some}
-use mathlib.Core.Bool.{Bool, true, false, cond, _&&_, _||_}
+use mathlib.Core.Option.{none, some}
+use mathlib.Core.Bool.{true, false, _||_}
 use Prim.Native.Nat.{ℕ, _≤_}
 use native.Mathlib.Omega.{arith}
-use lib.ListN.{length, getD}
+use lib.ListN.{length}
 use lib.Dec.{eqb}
 use borrow.Author.Tests.{eq-eqb, eqb-true}
 use Rattle.octet.specs.Bytes.{between, allIn, runIn}
-use Rattle.octet.proofs.Cases.{cond-true, and-both, and-left, and-right, or-cases, or-left, or-right}
+use Rattle.octet.proofs.Cases.{cond-true, and-left, or-cases, or-left, or-right}
 use Rattle.octet.proofs.Lists.{is-between, between-low, between-high, run-all, run-is-all}
 use Rattle.value.specs.Value.{badGraph, isOneOf}
-use Rattle.value.specs.Readers.{checked, graphChecked, textChecked, codeChecked}
+use Rattle.value.specs.Readers.{graphChecked, textChecked, codeChecked}
 use Rattle.value.specs.declared.Check.the-variants.{Good, BadForm, OutOfRange}
 use Rattle.value.proofs.Forms.{form-well, form-good, checked-good, checked-bad, checked-out}
 

@@ -3,12 +3,12 @@
 --     time-is     what it means to be a time
 --     time-read     a time is read
 --     time-filled, time-full     a time of 17 bytes with .000 after it is a time, of 21 bytes
-use mathlib.Core.Path.{_≡_, refl, sym, ap, _∙_, subst}
+use mathlib.Core.Path.{_≡_, refl, sym, ap, _∙_}
 use mathlib.Core.Logic.{_⊎_, ⊎-elim, inl, inr}
 use mathlib.Core.List.{List, _++_, append-nil}
 use mathlib.Core.Option.{Option, none, some}
-use mathlib.Core.Bool.{Bool, true, false, cond, _&&_, _||_}
-use Prim.Native.Nat.{ℕ, _+_, _≤_, min}
+use mathlib.Core.Bool.{true, false, cond}
+use Prim.Native.Nat.{ℕ, _+_, _≤_}
 use native.Mathlib.Omega.{arith}
 use lib.ListN.{length, length-append, length-take, drop}
 use lib.Dec.{eqb}
@@ -22,7 +22,6 @@ use Rattle.text.specs.declared.Digits.{Digits}
 use Rattle.text.proofs.ReadLaws.{front-digits}
 use Rattle.value.specs.Value.{wellFormed, likeRun, timePattern, timeLong, badTime, isDay, isClock, numberOn, timeFits, isTime}
 use Rattle.value.specs.Readers.{checked, timeChecked}
-use Rattle.value.specs.declared.Check.{Check}
 use Rattle.value.specs.declared.Check.the-variants.{Good, BadForm, OutOfRange}
 use Rattle.value.proofs.Forms.{form-short, form-part, form-well, form-good, checked-good, checked-bad, checked-out}
 use Rattle.value.proofs.Like.{like-digits, like-append}

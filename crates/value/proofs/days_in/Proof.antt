@@ -5,20 +5,8 @@ use Rattle.value.proofs.Days.{days-other, days-leap, days-common}
 use Rattle.value.proofs.days_in.Statement.{statement}
 use Rattle.value.proofs.days_in.Tie as tie
 
-sub-common : tie.Need-sub-common
-sub-common c = search needs
-
-mul-common : tie.Need-mul-common
-mul-common c = search needs
-
-array-read-common : tie.Need-array-read-common
-array-read-common c = search needs
-
 returns : tie.Need-returns
 returns c = days-other (c .before .args .year) (c .before .args .month) (search needs) (search needs) (c .if1 .taken)
-
-is-leap-requires : tie.Need-is-leap-requires
-is-leap-requires c κs = search needs
 
 returns-2 : tie.Need-returns-2
 returns-2 c =
@@ -33,4 +21,4 @@ returns-3 c =
 pub days-in-spec : {M : Type 1} → statement M
 days-in-spec =
     tie.close
-    (tie.spec sub-common mul-common array-read-common returns is-leap-requires returns-2 returns-3)
+    (tie.spec (λ c. search needs) (λ c. search needs) (λ c. search needs) returns (λ c κs. search needs) returns-2 returns-3)

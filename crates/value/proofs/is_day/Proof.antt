@@ -18,12 +18,9 @@ returns-3 : tie.Need-returns-3
 unfolding isDay
 returns-3 c = simp (is-between 1 12 _ (c .before .before .if1 .left) (c .before .if2 .left), lt-leb _ _ (c .if3 .taken))
 
-days-in-requires : tie.Need-days-in-requires
-days-in-requires c κs = search needs
-
 returns-4 : tie.Need-returns-4
 unfolding isDay
 returns-4 c = simp (is-between 1 12 _ (c .before .before .before .if1 .left) (c .before .before .if2 .left), le-leb _ _ (c .before .if3 .left), c .days-in .ensures)
 
 pub is-day-spec : {M : Type 1} → statement M
-is-day-spec = tie.close (tie.spec returns returns-2 returns-3 days-in-requires returns-4)
+is-day-spec = tie.close (tie.spec returns returns-2 returns-3 (λ c κs. search needs) returns-4)

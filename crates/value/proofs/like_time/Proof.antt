@@ -16,34 +16,16 @@ Inv-loop v i₀ i = (i ≤ length v) × (likeRun timePattern v ≡ i + likeRun (
 abbrev μ-loop : tie.MeasureT-loop
 μ-loop v i₀ i = length v - i
 
-loop-holds : tie.Need-loop-holds Inv-loop μ-loop
-loop-holds c = search needs
-
 returns : tie.Need-returns Inv-loop μ-loop
 returns c =
     let k = c .before .before in
     omega (arith, like-past timePattern (k .before .before .args .v .now) (k .loop .i) (c .if1 .taken))
-
-array-read-is-like : tie.Need-array-read-is-like Inv-loop μ-loop
-array-read-is-like c = search needs
-
-shared-slice-read-is-like : tie.Need-shared-slice-read-is-like Inv-loop μ-loop
-shared-slice-read-is-like c = search needs
-
-is-like-requires : tie.Need-is-like-requires Inv-loop μ-loop
-is-like-requires c κs = search needs
 
 returns-2 : tie.Need-returns-2 Inv-loop μ-loop
 returns-2 c =
     let k = c .before .before .before .before .before in
     let e = sym (c .before .is-like .ensures) ∙ not-true _ (c .if2 .taken) in
     omega (arith, like-stop timePattern (k .before .before .args .v .now) (k .loop .i) (search needs) (search needs) e)
-
-add-i : tie.Need-add-i Inv-loop μ-loop
-add-i c = search needs
-
-loop-less : tie.Need-loop-less Inv-loop μ-loop
-loop-less c = search needs
 
 loop-again : tie.Need-loop-again Inv-loop μ-loop
 loop-again c =
@@ -62,13 +44,13 @@ like-time-spec =
     (tie.spec
     Inv-loop
     μ-loop
-    loop-holds
+    (λ c. search needs)
     returns
-    array-read-is-like
-    shared-slice-read-is-like
-    is-like-requires
+    (λ c. search needs)
+    (λ c. search needs)
+    (λ c κs. search needs)
     returns-2
-    add-i
-    loop-less
+    (λ c. search needs)
+    (λ c. search needs)
     loop-again
     returns-3)

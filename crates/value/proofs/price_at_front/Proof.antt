@@ -1,9 +1,8 @@
 -- `value::price_at_front` meets its contract, with and without a point.
 use borrow.Author.Needs.{needs}
 use borrow.Author.Tests.{not-true, not-false}
-use mathlib.Core.Path.{_≡_, sym, ap, _∙_}
-use mathlib.Core.List.{List}
-use Prim.Native.Nat.{ℕ, _+_, _*_, _≤_, _<_}
+use mathlib.Core.Path.{sym, ap, _∙_}
+use Prim.Native.Nat.{_+_, _*_, _≤_}
 use native.Mathlib.Nat.{pow-le-pow-right, mul-le-mul-left}
 use native.Mathlib.Omega.{arith}
 use lib.ListN.{length}
@@ -26,45 +25,15 @@ inside c =
 scaled : (c : tie.After-scale) → (let r = c .before .before .read-digits2 .result .value in r * (c .scale .result) ≤ r * 10000)
 scaled c = mul-le-mul-left _ (rw (c .scale .ensures) (pow-le-pow-right {n = 10} (lit< tt) {j = 4} (omega arith)))
 
-read-digits-requires : tie.Need-read-digits-requires
-read-digits-requires c κs = search needs
-
-cast-price : tie.Need-cast-price
-cast-price c = search needs
-
-mul-price : tie.Need-mul-price
-mul-price c = search needs
-
-is-point-requires : tie.Need-is-point-requires
-is-point-requires c κs = search needs
-
 returns : tie.Need-returns
 returns c =
     front-plain _ _ (c .before .before .before .read-digits .ensures .0) (sym (c .before .is-point .ensures) ∙ not-true _ (c .if1 .taken))
-
-add-after : tie.Need-add-after
-add-after c = search needs
 
 sub-read-digits : tie.Need-sub-read-digits
 sub-read-digits c = inside c
 
 part-read-digits-start : tie.Need-part-read-digits-start
 part-read-digits-start c = let h = inside c in search needs
-
-part-read-digits-end : tie.Need-part-read-digits-end
-part-read-digits-end c = search needs
-
-read-digits-requires-2 : tie.Need-read-digits-requires-2
-read-digits-requires-2 c κs = search needs
-
-add-t13 : tie.Need-add-t13
-add-t13 c = search needs
-
-cast-t8 : tie.Need-cast-t8
-cast-t8 c = search needs
-
-scale-requires : tie.Need-scale-requires
-scale-requires c κs = search needs
 
 mul-t17 : tie.Need-mul-t17
 mul-t17 c = omega (arith, scaled c)
@@ -86,19 +55,19 @@ pub price-at-front-spec : {M : Type 1} → statement M
 price-at-front-spec =
     tie.close
     (tie.spec
-    read-digits-requires
-    cast-price
-    mul-price
-    is-point-requires
+    (λ c κs. search needs)
+    (λ c. search needs)
+    (λ c. search needs)
+    (λ c κs. search needs)
     returns
-    add-after
+    (λ c. search needs)
     sub-read-digits
     part-read-digits-start
-    part-read-digits-end
-    read-digits-requires-2
-    add-t13
-    cast-t8
-    scale-requires
+    (λ c. search needs)
+    (λ c κs. search needs)
+    (λ c. search needs)
+    (λ c. search needs)
+    (λ c κs. search needs)
     mul-t17
     add-t18
     returns-2)

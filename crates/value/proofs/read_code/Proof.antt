@@ -9,9 +9,6 @@ returns : tie.Need-returns
 unfolding codeChecked
 returns c = simp (ne-eqb _ _ (c .if1 .taken))
 
-shared-slice-read-code : tie.Need-shared-slice-read-code
-shared-slice-read-code c = search needs
-
 returns-2 : tie.Need-returns-2
 unfolding codeChecked
 returns-2 c = simp (eq-eqb _ _ (c .before .before .if1 .left), eq-eqb _ _ (c .if2 .taken))
@@ -25,4 +22,4 @@ unfolding codeChecked
 returns-4 c = simp (eq-eqb _ _ (c .before .before .before .if1 .left), ne-eqb _ _ (c .before .if2 .left), ne-eqb _ _ (c .if3 .left))
 
 pub read-code-spec : {M : Type 1} → statement M
-read-code-spec = tie.close (tie.spec returns shared-slice-read-code returns-2 returns-3 returns-4)
+read-code-spec = tie.close (tie.spec returns (λ c. search needs) returns-2 returns-3 returns-4)

@@ -1,15 +1,9 @@
 -- `value::read_number` meets its contract, by form and then by range.
 use borrow.Author.Needs.{needs}
-use mathlib.Core.Path.{_≡_}
 use native.Mathlib.Omega.{arith}
-use mathlib.Core.List.{List}
-use Prim.Native.Nat.{ℕ}
 use Rattle.value.proofs.Numbers.{number-short, number-empty, number-in, number-below, number-above}
 use Rattle.value.proofs.read_number.Statement.{statement}
 use Rattle.value.proofs.read_number.Tie as tie
-
-read-digits-requires : tie.Need-read-digits-requires
-read-digits-requires c κs = search needs
 
 returns : tie.Need-returns
 returns c =
@@ -41,4 +35,4 @@ returns-5 c =
 pub read-number-spec : {M : Type 1} → statement M
 read-number-spec =
     tie.close
-    (tie.spec read-digits-requires returns returns-2 returns-3 returns-4 returns-5)
+    (tie.spec (λ c κs. search needs) returns returns-2 returns-3 returns-4 returns-5)

@@ -1,15 +1,12 @@
 -- `value::read_price` meets its contract, by form.
 use borrow.Author.Needs.{needs}
 use borrow.Author.Tests.{not-true, not-false}
-use mathlib.Core.Path.{_≡_, sym, subst}
+use mathlib.Core.Path.{sym, subst}
 use Prim.Native.Nat.{ℕ, _≤_}
 use denote.Ref.{now}
 use Rattle.value.proofs.Prices.{price-short, price-part, price-whole, price-front, price-small}
 use Rattle.value.proofs.read_price.Statement.{statement}
 use Rattle.value.proofs.read_price.Tie as tie
-
-price-at-front-requires : tie.Need-price-at-front-requires
-price-at-front-requires c κs = search needs
 
 returns : tie.Need-returns
 returns c = (price-short _ _ (c .before .price-at-front .ensures) (c .if1 .taken), tt)
@@ -27,4 +24,4 @@ returns-3 c =
     )
 
 pub read-price-spec : {M : Type 1} → statement M
-read-price-spec = tie.close (tie.spec price-at-front-requires returns returns-2 returns-3)
+read-price-spec = tie.close (tie.spec (λ c κs. search needs) returns returns-2 returns-3)

@@ -4,12 +4,9 @@ use Rattle.value.specs.Readers.{textChecked}
 use Rattle.value.proofs.read_text.Statement.{statement}
 use Rattle.value.proofs.read_text.Tie as tie
 
-sized-requires : tie.Need-sized-requires
-sized-requires c κs = search needs
-
 returns : tie.Need-returns
 unfolding textChecked
 returns c = c .sized .ensures
 
 pub read-text-spec : {M : Type 1} → statement M
-read-text-spec = tie.close (tie.spec sized-requires returns)
+read-text-spec = tie.close (tie.spec (λ c κs. search needs) returns)

@@ -11,14 +11,8 @@ use Rattle.value.proofs.Times.{time-short, time-long, time-formed, time
 use Rattle.value.proofs.read_time.Statement.{statement}
 use Rattle.value.proofs.read_time.Tie as tie
 
-like-time-requires : tie.Need-like-time-requires
-like-time-requires c κs = search needs
-
 returns : tie.Need-returns
 returns c = time-short _ _ (c .before .like-time .ensures) (c .if1 .taken)
-
-is-time-long-requires : tie.Need-is-time-long-requires
-is-time-long-requires c κs = search needs
 
 returns-2 : tie.Need-returns-2
 returns-2 c =
@@ -43,9 +37,9 @@ pub read-time-spec : {M : Type 1} → statement M
 read-time-spec =
     tie.close
     (tie.spec
-    like-time-requires
+    (λ c κs. search needs)
     returns
-    is-time-long-requires
+    (λ c κs. search needs)
     returns-2
     time-fits-requires
     returns-3

@@ -1,26 +1,13 @@
 -- `value::time_fits` meets its contract: the digits at each place are read whole, and judged.
 use borrow.Author.Needs.{needs}
 use borrow.Author.Tests.{not-true, not-false}
-use mathlib.Core.Path.{_≡_, sym, _∙_}
-use mathlib.Core.Bool.{true, false}
+use mathlib.Core.Path.{sym, _∙_}
 use denote.Ref.{now}
 use Rattle.octet.proofs.Cases.{and-no-left}
-use Rattle.value.specs.Value.{isDay, isClock, numberOn, timeFits}
+use Rattle.value.specs.Value.{timeFits}
 use Rattle.value.proofs.Times.{day-read, clock-read}
 use Rattle.value.proofs.time_fits.Statement.{statement}
 use Rattle.value.proofs.time_fits.Tie as tie
-
-number-on-requires : tie.Need-number-on-requires
-number-on-requires c κs = search needs
-
-number-on-requires-2 : tie.Need-number-on-requires-2
-number-on-requires-2 c κs = search needs
-
-number-on-requires-3 : tie.Need-number-on-requires-3
-number-on-requires-3 c κs = search needs
-
-is-day-requires : tie.Need-is-day-requires
-is-day-requires c κs = search needs
 
 returns : tie.Need-returns
 unfolding timeFits
@@ -29,18 +16,6 @@ returns c =
     let v = now (k .before .before .before .before .args .v) in
     let day = sym (day-read v (k .before .before .before .before .pre) _ _ _ (k .before .before .number-on .ensures) (k .before .number-on2 .ensures) (k .number-on3 .ensures)) in
     sym (and-no-left _ _ (day ∙ sym (c .before .is-day .ensures) ∙ not-true _ (c .if1 .taken)))
-
-number-on-requires-4 : tie.Need-number-on-requires-4
-number-on-requires-4 c κs = search needs
-
-number-on-requires-5 : tie.Need-number-on-requires-5
-number-on-requires-5 c κs = search needs
-
-number-on-requires-6 : tie.Need-number-on-requires-6
-number-on-requires-6 c κs = search needs
-
-is-clock-requires : tie.Need-is-clock-requires
-is-clock-requires c κs = search needs
 
 returns-2 : tie.Need-returns-2
 unfolding timeFits
@@ -57,13 +32,13 @@ pub time-fits-spec : {M : Type 1} → statement M
 time-fits-spec =
     tie.close
     (tie.spec
-    number-on-requires
-    number-on-requires-2
-    number-on-requires-3
-    is-day-requires
+    (λ c κs. search needs)
+    (λ c κs. search needs)
+    (λ c κs. search needs)
+    (λ c κs. search needs)
     returns
-    number-on-requires-4
-    number-on-requires-5
-    number-on-requires-6
-    is-clock-requires
+    (λ c κs. search needs)
+    (λ c κs. search needs)
+    (λ c κs. search needs)
+    (λ c κs. search needs)
     returns-2)
