@@ -3,11 +3,12 @@ use Prim.Native.Nat.{ℕ, _+_}
 use mathlib.Core.List.{List, [], _∷_, _++_}
 use mathlib.Core.Option.{Option, none, some}
 use mathlib.Core.Bool.{Bool, cond}
-use lib.ListN.{length}
+use lib.ListN.{length, drop, replicate}
 use lib.Dec.{leb, eqb}
 use Rattle.octet.specs.Bytes.{bytesOf, part}
 use Rattle.octet.specs.Places.{high, bigEndian}
-use Rattle.fill.specs.Slot.{Slot, slotOf, noteBodyOf, bodyWidth}
+use Rattle.octet.specs.Splice.{fitsAt}
+use Rattle.fill.specs.Slot.{Slot, slotOf, noteBodyOf, bodyWidth, slotWidth}
 use Rattle.note.specs.declared.Read.{Read}
 use Rattle.note.specs.declared.Read.the-variants as read
 
@@ -62,10 +63,32 @@ abbrev pub sized : ℕ → List ℕ → Option ℕ → Reading
 sized kind body none = Unknown
 sized kind body (some n) = cond (leb n (length body)) (Whole (sayOf kind body) (1 + n)) Part
 
+unfoldable pub readBody : ℕ → List ℕ → Reading
+readBody kind body = sized kind body (bodySize kind)
+
 -- "drops a part at the end"
 unfoldable pub readNote : List ℕ → Reading
 readNote [] = Part
-readNote (kind ∷ body) = sized kind body (bodySize kind)
+readNote (kind ∷ body) = readBody kind body
+
+-- a note's bytes with its kind byte; none for an unknown kind
+abbrev pub wholeSize : Option ℕ → ℕ
+wholeSize none = 0
+wholeSize (some n) = 1 + n
+
+-- how many bytes it took; none where no note is whole
+abbrev pub taken : Reading → ℕ
+taken (Whole note n) = n
+taken Part = 0
+taken Unknown = 0
+
+-- the slot of a whole F note with its kind byte; zeros where there are too few bytes for one
+unfoldable pub slotIn : List ℕ → Slot
+slotIn s = cond (leb longestNote (length s)) (slotAt (drop 1 s)) (replicate slotWidth 0)
+
+-- what a writer answers: how many bytes it wrote from the front of d; none where they do not fit
+abbrev pub written : List ℕ → List ℕ → ℕ
+written d s = cond (fitsAt d 0 s) (length s) 0
 
 -- ---- the code's answer, which leaves the slot in the bytes
 

@@ -1,0 +1,5 @@
+pub mod Reading
+pub mod Telling
+pub mod Writing
+pub mod Keeping
+pub mod Unique
