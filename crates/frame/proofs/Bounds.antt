@@ -2,8 +2,9 @@
 -- a skip goes on by one byte or more, and not past the end.
 --     framed-by-fine, garbled-by-fine     over any opening
 --     framed-fine, garbled-fine     for `8=FIX.4.2|`
+--     found-none     no bytes: More
 --     answered-framed, answered-garbled     the verdict behind an answer
-use mathlib.Core.Path.{_≡_, refl, subst}
+use mathlib.Core.Path.{_≡_, refl, subst, ap}
 use mathlib.Core.List.{List, [], _∷_, _++_}
 use mathlib.Core.Bool.{_&&_}
 use Prim.Native.Nat.{ℕ, suc, zero-le, suc-le-suc, _+_, _≤_}
@@ -16,7 +17,7 @@ use Rattle.octet.proofs.Cases.{of-cond, and-left}
 use Rattle.octet.proofs.Lists.{agree-none, between-low, between-high}
 use Rattle.text.specs.Decimal.{digitRun, digits, checkSum}
 use Rattle.frame.specs.Finding.{toAgree, skipOf, bodyOk, trailerOf, answered, opening, judgeWhole, judgeLength, judgeDigits, judge, foundBy, foundIn}
-use Rattle.frame.specs.declared.Found.the-variants.{Garbled, Framed}
+use Rattle.frame.specs.declared.Found.the-variants.{More, Garbled, Framed}
 use Rattle.frame.specs.declared.Verdict.{Verdict}
 use Rattle.frame.specs.declared.Verdict.the-variants.{Short, Failed, Whole}
 use Rattle.frame.proofs.Steps.{digits-past}
@@ -87,6 +88,10 @@ skip-fine o [] e = let z : _≡_ {A = ℕ} 0 1 = cc (none-short o) in absurd (om
 skip-fine o (x ∷ s) e = let l = toAgree-le o s in (omega arith, omega arith)
 
 -- ---- for callers
+pub found-none : (o : List ℕ) → foundBy o [] ≡ More
+unfolding foundBy
+found-none o = ap (λ (v : Verdict). answered v (skipOf o [])) (none-short o)
+
 pub framed-by-fine : (o s : List ℕ) (n : ℕ) → foundBy o s ≡ Framed n → (length o + 16 ≤ n) × (n ≤ length o + 4086) × (n ≤ length s)
 unfolding foundBy
 framed-by-fine o s n e =
