@@ -8,7 +8,7 @@ use lib.Dec.{leb, eqb}
 use Rattle.frame.specs.Finding.{foundIn, bodyIn}
 use Rattle.frame.specs.declared.Found.{Found}
 use Rattle.frame.specs.declared.Found.the-variants as found
-use Rattle.field.specs.Pieces.{Pieces, piecesOf}
+use Rattle.field.specs.Pieces.{Pieces, piecesOf, textAt}
 use Rattle.wire.specs.Messages.{replyOf}
 use Rattle.wire.specs.declared.Reply.the-variants.{One}
 use Rattle.fill.specs.Slot.{Slot, lineOf}
@@ -21,7 +21,7 @@ use Rattle.report.specs.Report.{reportedIn, slotIn}
 use Rattle.report.specs.declared.Reported.{Reported}
 use Rattle.report.specs.declared.Reported.the-variants as reported
 use Rattle.session.specs.Session.{says, ownCall, lineLost}
-use Rattle.session.specs.Judging.{judge, rejected, passed, wordOf}
+use Rattle.session.specs.Judging.{judge, rejected, passed, wordTag}
 use Rattle.session.specs.declared.Own.{Own}
 use Rattle.session.specs.declared.Session.{Session}
 use Rattle.session.specs.declared.Judged.{Judged}
@@ -58,7 +58,7 @@ unfoldable pub settled : Setup → State → List ℕ → ℕ → Pieces → Jud
 settled setup st time len ps j = record {
   answer = Framed len (j .outcome);
   next = withSession st (j .next);
-  reply = replyOf setup (st .kept .o) time (wordOf ps (j .reply)) (j .reply);
+  reply = replyOf setup (st .kept .o) time (textAt (wordTag (j .reply)) ps) (j .reply);
   note = noteOfChange (sessionOf st) (j .next);
   line = [];
 }
@@ -84,11 +84,11 @@ bookedOr st len s = cond (hasRoom (st .kept .slots) (st .kept .orders) s) (booke
 unfoldable pub placedFill : Setup → State → List ℕ → ℕ → Pieces → ℕ → Placed → Did
 placedFill setup st time len ps n placed.New = bookedOr st len (slotIn ps)
 placedFill setup st time len ps n placed.Already = settled setup st time len ps (passed outcome.Already (sessionOf st))
-placedFill setup st time len ps n (placed.Clash f) = settled setup st time len ps (rejected setup (sessionOf st) n ps f)
+placedFill setup st time len ps n (placed.Clash f) = settled setup st time len ps (rejected (sessionOf st) n f)
 
 -- a faultless report in its turn: the rules, set aside, then the book
 unfoldable pub ruled : Setup → State → List ℕ → ℕ → Pieces → ℕ → Reported → Did
-ruled setup st time len ps n (reported.Faulty f) = settled setup st time len ps (rejected setup (sessionOf st) n ps f)
+ruled setup st time len ps n (reported.Faulty f) = settled setup st time len ps (rejected (sessionOf st) n f)
 ruled setup st time len ps n reported.Aside = settled setup st time len ps (passed outcome.Aside (sessionOf st))
 ruled setup st time len ps n reported.Fill = placedFill setup st time len ps n (place (st .kept .slots) (slotIn ps))
 

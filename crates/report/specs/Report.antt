@@ -6,9 +6,8 @@ use mathlib.Core.Bool.{Bool, cond, not, Bool·beq}
 use lib.Dec.{eqb}
 use Rattle.octet.specs.Bytes.{between, same, is}
 use Rattle.octet.specs.Maybe.{isNone, orElse}
-use Rattle.value.specs.Value.{priceIn}
+use Rattle.value.specs.Value.{priceIn, numberOr}
 use Rattle.field.specs.Pieces.{Pieces, firstOf, textAt}
-use Rattle.table.specs.Steps.{numberAt}
 use Rattle.answer.specs.Numbers.{fault}
 use Rattle.answer.specs.declared.Fault.{Fault}
 use Rattle.fill.specs.Slot.{Slot, Fill, bodyOf, slotOf}
@@ -25,26 +24,27 @@ pub record Report : Type 0 where
   pub status : List ℕ
   pub aside : Bool
 
-abbrev pub fillIn : Pieces → Fill
-fillIn ps = record {
-  exec = textAt 17 ps;
-  order = textAt 37 ps;
-  symbol = textAt 55 ps;
-  side = numberAt 54 ps;
-  quantity = numberAt 38 ps;
-  shares = numberAt 32 ps;
-  price = priceIn (textAt 31 ps);
-  cum = numberAt 14 ps;
-  time = textAt 60 ps;
+-- by the value of each tag
+abbrev pub fillOf : (ℕ → List ℕ) → Fill
+fillOf text = record {
+  exec = text 17;
+  order = text 37;
+  symbol = text 55;
+  side = numberOr (text 54);
+  quantity = numberOr (text 38);
+  shares = numberOr (text 32);
+  price = priceIn (text 31);
+  cum = numberOr (text 14);
+  time = text 60;
 }
 
-unfoldable pub reportIn : Pieces → Report
-reportIn ps = record {
-  fill = fillIn ps;
-  leaves = numberAt 151 ps;
-  execType = textAt 150 ps;
-  status = textAt 39 ps;
-  aside = not (isNone (firstOf 442 ps));
+unfoldable pub reportOf : (ℕ → List ℕ) → Bool → Report
+reportOf text aside = record {
+  fill = fillOf text;
+  leaves = numberOr (text 151);
+  execType = text 150;
+  status = text 39;
+  aside = aside;
 }
 
 -- ---- "Then, each Reject 5 with the tag: .."
@@ -77,9 +77,20 @@ abbrev pub afterRules : Bool → Option Fault → Reported
 afterRules aside (some f) = Faulty f
 afterRules aside none = cond aside Aside reported.Fill
 
-unfoldable pub reportedIn : Pieces → Reported
-reportedIn ps = afterRules (reportIn ps .aside) (ruleFault (reportIn ps))
+unfoldable pub reportedOf : Report → Reported
+reportedOf r = afterRules (r .aside) (ruleFault r)
+
+-- ---- on the pieces of a body
+
+abbrev pub reportIn : Pieces → Report
+reportIn ps = reportOf (λ (tag : ℕ). textAt tag ps) (not (isNone (firstOf 442 ps)))
+
+abbrev pub reportedIn : Pieces → Reported
+reportedIn ps = reportedOf (reportIn ps)
 
 -- the slot of the fill that a report tells of
-unfoldable pub slotIn : Pieces → Slot
-slotIn ps = slotOf (bodyOf (fillIn ps))
+unfoldable pub slotFor : (ℕ → List ℕ) → Slot
+slotFor text = slotOf (bodyOf (fillOf text))
+
+abbrev pub slotIn : Pieces → Slot
+slotIn ps = slotFor (λ (tag : ℕ). textAt tag ps)

@@ -1,4 +1,4 @@
--- "A framed message is judged in this order": steps 1 to 7 and the table's effects, on the pieces of its body.
+-- "A framed message is judged in this order": steps 1 to 7 and the table's effects, by what is read off the message.
 use Prim.Native.Nat.{ℕ, _+_, _-_, min}
 use mathlib.Core.List.{List}
 use mathlib.Core.Option.{Option, none, some}
@@ -9,7 +9,7 @@ use Rattle.octet.specs.Maybe.{isNone}
 use Rattle.value.specs.Readers.{numberRead}
 use Rattle.value.specs.declared.Number.{Number}
 use Rattle.value.specs.declared.Number.the-variants as number
-use Rattle.field.specs.Pieces.{Pieces, firstOf, has, textAt, typeIn}
+use Rattle.field.specs.Pieces.{Pieces, firstOf, isThat}
 use Rattle.table.specs.Rows.{kindIn}
 use Rattle.table.specs.Steps.{numberAt, faultIn}
 use Rattle.answer.specs.Setup.{ours, theirs}
@@ -32,8 +32,24 @@ use Rattle.session.specs.declared.Judged.{Judged}
 use Rattle.session.specs.declared.Verdict.{Verdict}
 use Rattle.session.specs.declared.Verdict.the-variants.{Settled, Report}
 
--- ---- step 1: "The first `34=` field is 1 to 999,999,998, 1 to 9 digits. Else Logout, ended."
+-- ---- what the steps read off a message
 
+pub record Facts : Type 0 where
+  -- its type, and its number where it has one (step 1)
+  pub kind : Kind
+  pub seq : Option ℕ
+  -- which ID is not the agreed one (step 2), and what is wrong by steps 5 to 7
+  pub ids : Option Fault
+  pub fault : Option Fault
+  -- `43=Y`, `123=Y`
+  pub again : Bool
+  pub filling : Bool
+  -- the numbers of 7, 16 and 36
+  pub from : ℕ
+  pub upTo : ℕ
+  pub to : ℕ
+
+-- step 1: "The first `34=` field is 1 to 999,999,998, 1 to 9 digits"
 abbrev pub numberIf : Number → Option ℕ
 numberIf (number.Value n) = some n
 numberIf (number.BadForm at) = none
@@ -43,17 +59,37 @@ abbrev pub seqGiven : Option (List ℕ) → Option ℕ
 seqGiven none = none
 seqGiven (some v) = numberIf (numberRead 1 999999998 v)
 
-unfoldable pub seqOf : Pieces → Option ℕ
-seqOf ps = seqGiven (firstOf 34 ps)
+-- step 2: "The first `49=` and then `56=` are the agreed IDs"
+abbrev pub idsGiven : Setup → Option (List ℕ) → Option (List ℕ) → Option Fault
+idsGiven setup sender target =
+    cond (isThat (theirs setup) sender) (cond (isThat (ours setup) target) none (some (fault 9 56))) (some (fault 9 49))
+
+abbrev pub yes : Option (List ℕ) → Bool
+yes v = isThat (bytesOf "Y") v
+
+-- all of them, by the first field of each tag, the number of each, the type and the fault of steps 5 to 7
+unfoldable pub factsOf : Setup → Kind → Option Fault → (ℕ → Option (List ℕ)) → (ℕ → ℕ) → Facts
+factsOf setup k f field value = record {
+  kind = k;
+  seq = seqGiven (field 34);
+  ids = idsGiven setup (field 49) (field 56);
+  fault = f;
+  again = yes (field 43);
+  filling = yes (field 123);
+  from = value 7;
+  upTo = value 16;
+  to = value 36;
+}
+
+-- on the pieces of its body
+unfoldable pub factsIn : Setup → Session → Pieces → Facts
+factsIn setup s ps =
+    factsOf setup (kindIn setup ps) (faultIn setup (s .phase) (s .o) ps) (λ (tag : ℕ). firstOf tag ps) (λ (tag : ℕ). numberAt tag ps)
+
+-- ---- "Else Logout, ended"; "Else Reject 9 naming that tag, then Logout, ended"
 
 abbrev pub ended : Session → Judged
 ended s = judged Ended (One say.Logout) (into phase.Ended s)
-
--- ---- step 2: "The first `49=` and then `56=` are the agreed IDs. Else Reject 9 naming that tag, then Logout, ended."
-
-unfoldable pub idFault : Setup → Pieces → Option Fault
-idFault setup ps =
-    cond (has 49 (theirs setup) ps) (cond (has 56 (ours setup) ps) none (some (fault 9 56))) (some (fault 9 49))
 
 abbrev pub rejectedEnded : Session → ℕ → Fault → Judged
 rejectedEnded s n f = judged (RejectedEnded f) (Two (say.Reject n f) say.Logout) (into phase.Ended s)
@@ -73,19 +109,25 @@ logon s n (some f) = rejectedEnded s n f
 logon s n none = welcomed s n
 
 -- "type A numbered E or more, else Logout, ended"
-unfoldable pub step3 : Setup → Session → ℕ → Pieces → Judged
-step3 setup s n ps =
-    cond (isKind (kindIn setup ps) kind.Logon && leb (s .e) n) (logon s n (faultIn setup (s .phase) (s .o) ps)) (ended s)
+unfoldable pub step3 : Session → ℕ → Facts → Judged
+step3 s n m = cond (isKind (m .kind) kind.Logon && leb (s .e) n) (logon s n (m .fault)) (ended s)
 
 -- ---- steps 5 to 7 in its turn
 
 -- "type 4 without `123=Y`": reset mode
-unfoldable pub resetMode : Setup → Pieces → Bool
-resetMode setup ps = isKind (kindIn setup ps) kind.Reset && not (has 123 (bytesOf "Y") ps)
+abbrev pub resetMode : Facts → Bool
+resetMode m = isKind (m .kind) kind.Reset && not (m .filling)
 
--- "An in-order message raises E by 1, rejected ones included"; "A rejected type 4 in reset mode leaves E"
-unfoldable pub rejected : Setup → Session → ℕ → Pieces → Fault → Judged
-rejected setup s n ps f = judged (Rejected f) (One (say.Reject n f)) (cond (resetMode setup ps) s (raised s))
+abbrev pub rejectedTo : Session → ℕ → Fault → Judged
+rejectedTo next n f = judged (Rejected f) (One (say.Reject n f)) next
+
+-- "An in-order message raises E by 1, rejected ones included"
+abbrev pub rejected : Session → ℕ → Fault → Judged
+rejected s n f = rejectedTo (raised s) n f
+
+-- "A rejected type 4 in reset mode leaves E"
+unfoldable pub rejectedBy : Session → ℕ → Facts → Fault → Judged
+rejectedBy s n m f = cond (resetMode m) (rejectedTo s n f) (rejected s n f)
 
 -- nothing is written, and E rises by 1
 abbrev pub passed : Outcome → Session → Judged
@@ -95,100 +137,103 @@ abbrev pub heard : Session → Judged
 heard s = passed Heard s
 
 -- "36 the smaller of O and tag 16 plus 1 (O for 16=0)"
-unfoldable pub gapFill : Session → Pieces → Say
-gapFill s ps = say.GapFill (numberAt 7 ps) (cond (eqb (numberAt 16 ps) 0) (s .o) (min (s .o) (numberAt 16 ps + 1)))
+unfoldable pub gapFill : Session → Facts → Say
+gapFill s m = say.GapFill (m .from) (cond (eqb (m .upTo) 0) (s .o) (min (s .o) (m .upTo + 1)))
 
 -- "Type 4 with 36 above E answers with 36 less the old E. At or below E it is Reject 5 tag 36, except equal to E in reset mode: heard, E stays."
-unfoldable pub moved : Setup → Session → ℕ → Pieces → ℕ → Judged
-moved setup s n ps to =
-    cond (ltb (s .e) to) (judged (Moved (to - s .e)) Nothing (expecting to s))
-    (cond (eqb to (s .e) && resetMode setup ps) (judged Heard Nothing s)
-    (rejected setup s n ps (fault 5 36)))
+unfoldable pub moved : Session → ℕ → Facts → Judged
+moved s n m =
+    cond (ltb (s .e) (m .to)) (judged (Moved (m .to - s .e)) Nothing (expecting (m .to) s))
+    (cond (eqb (m .to) (s .e) && resetMode m) (judged Heard Nothing s)
+    (rejectedBy s n m (fault 5 36)))
 
 -- "Logout in phase 2, none in 4; ended"
-abbrev pub loggedOut : Session → Judged
+unfoldable pub loggedOut : Session → Judged
 loggedOut s = judged Ended (cond (isIn (s .phase)) (One say.Logout) Nothing) (into phase.Ended (raised s))
 
 -- the table's column "Effect". Of a report the book is to be asked; a Logon and an unlisted type were rejected before
-unfoldable pub effect : Setup → Session → ℕ → Pieces → Kind → Verdict
-effect setup s n ps kind.Logon = Settled (heard s)
-effect setup s n ps kind.Heartbeat = Settled (heard s)
-effect setup s n ps kind.Test = Settled (judged Echoed (One say.Echo) (raised s))
-effect setup s n ps kind.Resend = Settled (judged Filled (One (gapFill s ps)) (raised s))
-effect setup s n ps kind.Reset = Settled (moved setup s n ps (numberAt 36 ps))
-effect setup s n ps kind.Logout = Settled (loggedOut s)
-effect setup s n ps kind.Report = Report n
-effect setup s n ps kind.Other = Settled (heard s)
-effect setup s n ps kind.Unlisted = Settled (heard s)
+unfoldable pub effect : Session → ℕ → Facts → Kind → Verdict
+effect s n m kind.Logon = Settled (heard s)
+effect s n m kind.Heartbeat = Settled (heard s)
+effect s n m kind.Test = Settled (judged Echoed (One say.Echo) (raised s))
+effect s n m kind.Resend = Settled (judged Filled (One (gapFill s m)) (raised s))
+effect s n m kind.Reset = Settled (moved s n m)
+effect s n m kind.Logout = Settled (loggedOut s)
+effect s n m kind.Report = Report n
+effect s n m kind.Other = Settled (heard s)
+effect s n m kind.Unlisted = Settled (heard s)
 
-unfoldable pub inTurn : Setup → Session → ℕ → Pieces → Option Fault → Verdict
-inTurn setup s n ps (some f) = Settled (rejected setup s n ps f)
-inTurn setup s n ps none = effect setup s n ps (kindIn setup ps)
+unfoldable pub inTurn : Session → ℕ → Facts → Option Fault → Verdict
+inTurn s n m (some f) = Settled (rejectedBy s n m f)
+inTurn s n m none = effect s n m (m .kind)
 
 -- ---- step 4: in 2 or 4
 
--- `43=Y`
-abbrev pub again : Pieces → Bool
-again ps = has 43 (bytesOf "Y") ps
-
 -- "below E: with `43=Y` dropped, else Logout, ended"
-abbrev pub below : Session → Pieces → Judged
-below s ps = cond (again ps) (judged Dropped Nothing s) (ended s)
+abbrev pub below : Session → Facts → Judged
+below s m = cond (m .again) (judged Dropped Nothing s) (ended s)
 
 -- "unless one was written for this same E and the message neither has `43=Y` nor is a Heartbeat"
-unfoldable pub due : Setup → Session → Pieces → Bool
-due setup s ps = not (eqb (s .asked) (s .e)) || again ps || isKind (kindIn setup ps) kind.Heartbeat
+abbrev pub due : Session → Facts → Bool
+due s m = not (eqb (s .asked) (s .e)) || m .again || isKind (m .kind) kind.Heartbeat
 
 -- "A faultless Resend Request above E is answered first"
-unfoldable pub answered : Setup → Session → Pieces → Bool
-answered setup s ps = isKind (kindIn setup ps) kind.Resend && isNone (faultIn setup (s .phase) (s .o) ps)
+abbrev pub answered : Facts → Bool
+answered m = isKind (m .kind) kind.Resend && isNone (m .fault)
 
 -- our request, and before it the gap fill
-abbrev pub gapReply : Session → Pieces → Bool → Bool → Reply
-gapReply s ps true true = Two (gapFill s ps) (say.Resend (s .e))
-gapReply s ps true false = One (gapFill s ps)
-gapReply s ps false true = One (say.Resend (s .e))
-gapReply s ps false false = Nothing
+abbrev pub gapReply : Session → Facts → Bool → Bool → Reply
+gapReply s m true true = Two (gapFill s m) (say.Resend (s .e))
+gapReply s m true false = One (gapFill s m)
+gapReply s m false true = One (say.Resend (s .e))
+gapReply s m false false = Nothing
 
 -- "Above E: a gap, not applied, answered by a Resend Request (7=E, 16=0)"
-unfoldable pub gap : Setup → Session → Pieces → Judged
-gap setup s ps = judged Gap (gapReply s ps (answered setup s ps) (due setup s ps)) (cond (due setup s ps) (asking s) s)
+unfoldable pub gap : Session → Facts → Judged
+gap s m = judged Gap (gapReply s m (answered m) (due s m)) (cond (due s m) (asking s) s)
 
 -- "type 4 without `123=Y` ignores its number"
-unfoldable pub step4 : Setup → Session → ℕ → Pieces → Verdict
-step4 setup s n ps =
-    cond (resetMode setup ps || eqb n (s .e)) (inTurn setup s n ps (faultIn setup (s .phase) (s .o) ps))
-    (Settled (cond (ltb n (s .e)) (below s ps) (gap setup s ps)))
+unfoldable pub step4 : Session → ℕ → Facts → Verdict
+step4 s n m =
+    cond (resetMode m || eqb n (s .e)) (inTurn s n m (m .fault))
+    (Settled (cond (ltb n (s .e)) (below s m) (gap s m)))
 
 -- ---- all steps. A message in phase 0 or 3 is refused before it comes to this
 
-unfoldable pub byPhase : Setup → Phase → Session → ℕ → Pieces → Verdict
-byPhase setup phase.Out s n ps = Settled (judged Dropped Nothing s)
-byPhase setup phase.Sent s n ps = Settled (step3 setup s n ps)
-byPhase setup phase.In s n ps = step4 setup s n ps
-byPhase setup phase.Ended s n ps = Settled (judged Dropped Nothing s)
-byPhase setup phase.Closing s n ps = step4 setup s n ps
+unfoldable pub byPhase : Phase → Session → ℕ → Facts → Verdict
+byPhase phase.Out s n m = Settled (judged Dropped Nothing s)
+byPhase phase.Sent s n m = Settled (step3 s n m)
+byPhase phase.In s n m = step4 s n m
+byPhase phase.Ended s n m = Settled (judged Dropped Nothing s)
+byPhase phase.Closing s n m = step4 s n m
 
-abbrev pub step2 : Setup → Session → ℕ → Pieces → Option Fault → Verdict
-step2 setup s n ps (some f) = Settled (rejectedEnded s n f)
-step2 setup s n ps none = byPhase setup (s .phase) s n ps
+abbrev pub step2 : Session → ℕ → Facts → Option Fault → Verdict
+step2 s n m (some f) = Settled (rejectedEnded s n f)
+step2 s n m none = byPhase (s .phase) s n m
 
-abbrev pub step1 : Setup → Session → Pieces → Option ℕ → Verdict
-step1 setup s ps none = Settled (ended s)
-step1 setup s ps (some n) = step2 setup s n ps (idFault setup ps)
+abbrev pub step1 : Session → Facts → Option ℕ → Verdict
+step1 s m none = Settled (ended s)
+step1 s m (some n) = step2 s n m (m .ids)
+
+unfoldable pub judgedBy : Session → Facts → Verdict
+judgedBy s m = step1 s m (m .seq)
 
 unfoldable pub judge : Setup → Session → Pieces → Verdict
-judge setup s ps = step1 setup s ps (seqOf ps)
+judge setup s ps = judgedBy s (factsIn setup s ps)
 
--- the word that a reply repeats: 112 of the Test Request that is answered, or the type that is rejected
-abbrev pub wordOf : Pieces → Reply → List ℕ
-wordOf ps Nothing = typeIn ps
-wordOf ps (One say.Echo) = textAt 112 ps
-wordOf ps (One say.Logon) = typeIn ps
-wordOf ps (One say.Heartbeat) = typeIn ps
-wordOf ps (One say.Test) = typeIn ps
-wordOf ps (One say.Logout) = typeIn ps
-wordOf ps (One (say.Resend from)) = typeIn ps
-wordOf ps (One (say.Reject n f)) = typeIn ps
-wordOf ps (One (say.GapFill from to)) = typeIn ps
-wordOf ps (Two a b) = typeIn ps
+-- ---- the tag whose value a reply repeats: 112 of the Test Request that is answered, or 35, the type that is rejected
+
+abbrev pub echoes : Say → Bool
+echoes say.Echo = true
+echoes say.Logon = false
+echoes say.Heartbeat = false
+echoes say.Test = false
+echoes say.Logout = false
+echoes (say.Resend from) = false
+echoes (say.Reject n f) = false
+echoes (say.GapFill from to) = false
+
+abbrev pub wordTag : Reply → ℕ
+wordTag Nothing = 35
+wordTag (One a) = cond (echoes a) 112 35
+wordTag (Two a b) = 35
