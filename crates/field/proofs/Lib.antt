@@ -2,4 +2,5 @@ pub mod Cuts
 pub mod Heads
 pub mod IndexLaws
 pub mod Written
+pub mod Worked
 pub mod Unique
