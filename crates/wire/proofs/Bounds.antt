@@ -2,16 +2,16 @@
 --     framed-length     what framing adds to a body
 --     others-short, header-short, body-short     the fields
 --     message-short     a message has at most 199 bytes, so at most 256
---     reply-short     and a reply of two at most 512
-use mathlib.Core.Path.{_≡_, refl, sym, ap, _∙_}
+--     reply-short     and a reply, of two such messages, at most 398, so it fits 512
+use mathlib.Core.Path.{_≡_, refl}
 use mathlib.Core.Bool.{Bool, true, false, not}
-use mathlib.Core.List.{List, [], _∷_, _++_}
-use Prim.Native.Nat.{ℕ, _+_, _≤_, _<_, _^_, min}
+use mathlib.Core.List.{List, [], _∷_}
+use Prim.Native.Nat.{ℕ, _+_, _≤_, _<_, _^_}
 use native.Mathlib.Omega.{arith}
 use lib.ListN.{length, take, length-append, length-take}
 use lib.Dec.{eqb}
 use Rattle.octet.specs.Bytes.{bytesOf}
-use Rattle.text.specs.Decimal.{decimal, checkSum}
+use Rattle.text.specs.Decimal.{decimal}
 use Rattle.text.specs.Fields.{Field, _is_, said, layout, fieldBytes}
 use Rattle.text.proofs.Decimals.{decimal-length}
 use Rattle.text.proofs.Layouts.{layout-append}
@@ -20,7 +20,9 @@ use Rattle.answer.specs.Setup.{ours, theirs}
 use Rattle.answer.specs.declared.Setup.{Setup}
 use Rattle.wire.specs.declared.Say.{Say}
 use Rattle.wire.specs.declared.Say.the-variants.{Logon, Heartbeat, Echo, Test, Logout, Resend, Reject, GapFill}
-use Rattle.wire.specs.Messages.{headed, framed, typeOf, isGapFill, numberOf, othersOf, headerOf, fieldsOf, messageOf, numberAfter, uses}
+use Rattle.wire.specs.declared.Reply.{Reply}
+use Rattle.wire.specs.declared.Reply.the-variants.{Nothing, One, Two}
+use Rattle.wire.specs.Messages.{headed, framed, typeOf, isGapFill, numberOf, othersOf, headerOf, fieldsOf, messageOf, numberAfter, replyOf}
 use Rattle.wire.specs.Sending.{Small}
 
 -- ---- a field with a tag of at most 3 digits
@@ -137,3 +139,19 @@ module _ (setup : Setup) (p : length (ours setup) ≤ 16) (q : length (theirs se
         let b = body-short in
         let f = framed-length opening (layout (fieldsOf setup o time word say)) (omega arith) in
         omega arith
+
+-- ---- "reply buffer under 512": a reply fits
+abbrev pub SmallReply : Reply → Type 0
+SmallReply Nothing = Unit {0}
+SmallReply (One a) = Small a
+SmallReply (Two a b) = Small a × Small b
+
+module _ (setup : Setup) (p : length (ours setup) ≤ 16) (q : length (theirs setup) ≤ 16) (o : ℕ) (h : o < 2 ^ 32) (time word : List ℕ) where
+  pub reply-short : (r : Reply) → SmallReply r → length (replyOf setup o time word r) ≤ 398
+  unfolding replyOf
+  reply-short Nothing s = omega arith
+  reply-short (One a) s = omega (arith, message-short setup p q o h time a s word)
+  reply-short (Two a b) s =
+      let m = message-short setup p q o h time a (s .0) word in
+      let n = message-short setup p q (numberAfter o a) (omega arith) time b (s .1) word in
+      simp length-append (omega arith)

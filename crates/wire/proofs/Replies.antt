@@ -1,16 +1,26 @@
--- What writes into a buffer of at least 512 bytes come to, taken together.
---     replied-full     what a caller has who knows that the buffer has 512 bytes
+-- What writes come to, taken together.
+--     sent-is, sent-fits     a message that was placed, and where it ends where there is room for it
+--     replied-no, replied-none, replied-one, replied-two     a reply, by its case
+--     replied-full, replied-inside     what a caller has: the reply where the buffer has 512 bytes, and an end inside the buffer
 use mathlib.Core.Path.{_≡_, refl, sym, ap, _∙_}
-use mathlib.Core.List.{List, [], _∷_, _++_}
+use mathlib.Core.Logic.{⊎-elim}
+use mathlib.Core.Bool.{cond}
+use mathlib.Core.List.{List, [], _++_}
 use Prim.Native.Nat.{ℕ, _+_, _≤_, _<_}
 use native.Mathlib.Nat.{zero-add}
 use native.Mathlib.Omega.{arith}
 use borrow.Author.Tests.{lt-ltb, le-ltb}
 use lib.ListN.{length, length-append}
+use lib.Dec.{ltb}
 use Rattle.octet.specs.Splice.{splice, fitsAt}
-use Rattle.octet.proofs.Cases.{cond-true, cond-false}
+use Rattle.octet.proofs.Cases.{cond-true, le-or-lt}
 use Rattle.octet.proofs.Lists.{fits-true, splice-length, splice-then, splice-nil}
-use Rattle.wire.specs.Sending.{Sent, Replied, replyRoom}
+use Rattle.wire.specs.Sending.{longest, replyRoom, Sent, Replied}
+
+-- a message that was placed under another name
+pub sent-is : {old new h m : List ℕ} {at r : ℕ} → new ≡ splice old at h → r ≡ cond (fitsAt old at h) (at + length h) at → h ≡ m → length m ≤ longest → Sent old new at r m
+sent-is {old} {at = at} b e f s =
+    record { bytes = b ∙ ap (splice old at) f; end = e ∙ ap (λ (x : List ℕ). cond (fitsAt old at x) (at + length x) at) f; short = s }
 
 -- a message where there is room for it
 pub sent-fits : {old new m : List ℕ} {at r : ℕ} → Sent old new at r m → at + length m ≤ length old → r ≡ at + length m
@@ -45,3 +55,10 @@ module _ {old : List ℕ} (h : replyRoom ≤ length old) where
   -- what a caller has
   pub replied-full : {new m : List ℕ} {r : ℕ} → Replied old new r m → (new ≡ splice old 0 m) × (r ≡ length m)
   replied-full w = (rw (le-ltb _ _ h) at (w .bytes), rw (le-ltb _ _ h) at (w .end))
+
+pub replied-inside : {old new m : List ℕ} {r : ℕ} → Replied old new r m → r ≤ length old
+replied-inside {old} {new} {m} {r} w =
+    ⊎-elim
+    (λ h. omega (arith, w .short))
+    (λ h. omega (arith, w .end ∙ cond-true (ltb (length old) replyRoom) 0 (length m) (lt-ltb _ _ h)))
+    (le-or-lt replyRoom (length old))

@@ -1,8 +1,7 @@
-use mathlib.Core.Path.{_≡_, ap, _∙_}
-use mathlib.Core.List.{List, append-assoc}
-use Prim.Native.Nat.{ℕ}
+-- `wire::frame` meets its contract.
+use mathlib.Core.Path.{_≡_}
+use mathlib.Core.List.{append-assoc}
 use native.Mathlib.Omega.{arith}
-use lib.ListN.{length}
 use lib.Seq.{take-length}
 use Rattle.text.specs.Writing.{puts, held, empty}
 use Rattle.text.proofs.Puts.{puts-puts, held-short}

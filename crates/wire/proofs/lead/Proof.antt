@@ -1,3 +1,4 @@
+-- `wire::lead` meets its contract.
 use mathlib.Core.List.{append-assoc, append-nil}
 use Rattle.text.proofs.Puts.{puts-puts}
 use borrow.Author.Needs.{needs}

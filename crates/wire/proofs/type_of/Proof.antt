@@ -1,3 +1,4 @@
+-- `wire::type_of` meets its contract.
 use borrow.Author.Needs.{needs}
 use Rattle.wire.proofs.type_of.Statement.{statement}
 use Rattle.wire.proofs.type_of.Tie as tie

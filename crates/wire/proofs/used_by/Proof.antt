@@ -1,3 +1,4 @@
+-- `wire::used_by` meets its contract.
 use borrow.Author.Needs.{needs}
 use Rattle.wire.proofs.used_by.Statement.{statement}
 use Rattle.wire.proofs.used_by.Tie as tie

@@ -1,3 +1,4 @@
+-- `wire::with_fault` meets its contract.
 use mathlib.Core.List.{append-assoc, append-nil}
 use Rattle.text.proofs.Puts.{puts-puts}
 use Rattle.text.proofs.Layouts.{layout-append}

@@ -1,8 +1,8 @@
+-- `wire::with_others` meets its contract.
 use mathlib.Core.Path.{refl}
-use mathlib.Core.List.{append-assoc, append-nil}
+use mathlib.Core.List.{append-nil}
 use Rattle.text.specs.Writing.{puts}
 use Rattle.text.proofs.Puts.{puts-puts}
-use Rattle.text.proofs.Layouts.{layout-append}
 use borrow.Author.Needs.{needs}
 use Rattle.wire.proofs.with_others.Statement.{statement}
 use Rattle.wire.proofs.with_others.Tie as tie

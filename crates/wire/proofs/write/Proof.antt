@@ -1,10 +1,9 @@
+-- `wire::write` meets its contract: the body is whole, and so is the message, since both are short.
 use mathlib.Core.Path.{_≡_, ap, _∙_}
 use mathlib.Core.List.{List, append-assoc}
-use mathlib.Core.Bool.{cond}
-use Prim.Native.Nat.{ℕ, _+_, _≤_}
+use Prim.Native.Nat.{ℕ, _≤_}
 use native.Mathlib.Omega.{arith}
 use lib.ListN.{length, length-take}
-use Rattle.octet.specs.Splice.{splice, fitsAt}
 use Rattle.text.specs.Fields.{layout}
 use Rattle.text.specs.Writing.{puts, held, empty}
 use Rattle.text.proofs.Puts.{puts-puts, held-short}
@@ -12,6 +11,7 @@ use Rattle.text.proofs.Layouts.{layout-append}
 use Rattle.frame.specs.Finding.{opening}
 use Rattle.wire.specs.Messages.{framed, headerOf, fieldsOf, messageOf}
 use Rattle.wire.proofs.Bounds.{body-short, framed-length}
+use Rattle.wire.proofs.Replies.{sent-is}
 use borrow.Author.Needs.{needs}
 use Rattle.wire.proofs.write.Statement.{statement}
 use Rattle.wire.proofs.write.Tie as tie
@@ -42,22 +42,23 @@ holds c = ap held (whole c) ∙ held-short (Body c) (omega (arith, short c))
 frame-requires : tie.Need-frame-requires
 frame-requires c κs = rw (holds c) (omega (arith, short c))
 
+-- the message, whole
+message : (c : tie.After-frame) → held (c .frame .result) ≡ framed opening (Body (c .before))
+message c =
+    let w = c .before in
+    let b = short w in
+    let l = framed-length opening (Body w) (omega arith) in
+    let e : c .frame .result ≡ puts empty (framed opening (Body w)) = c .frame .ensures ∙ ap (λ (x : List ℕ). puts empty (framed opening x)) (holds w) in
+    ap held e ∙ held-short (framed opening (Body w)) (omega arith)
+
 returns : tie.Need-returns
 unfolding messageOf
 returns c =
-    let w = c .before .before .before .before .before in
-    let a = w .before .before .before .before .before .before .before .args in
-    let b = short w in
-    let l = framed-length opening (Body w) (omega arith) in
+    let f = c .before .before .before .before in
+    let w = f .before in
+    let l = framed-length opening (Body w) (omega (arith, short w)) in
     let p = c .before .before .place .ensures in
-    let f : held (c .before .before .before .before .frame .result) ≡ framed opening (Body w) =
-    ap held (c .before .before .before .before .frame .ensures ∙ ap (λ (x : List ℕ). puts empty (framed opening x)) (holds w))
-    ∙ held-short (framed opening (Body w)) (omega arith) in
-    record {
-      bytes = p .0 ∙ ap (splice (a .reply .now) (a .at)) f;
-      end = p .1 ∙ ap (λ (m : List ℕ). cond (fitsAt (a .reply .now) (a .at) m) (a .at + length m) (a .at)) f;
-      short = omega arith;
-    }
+    sent-is (p .0) (p .1) (message f) (omega (arith, short w))
 
 pub write-spec : {M : Type 1} → statement M
 write-spec =

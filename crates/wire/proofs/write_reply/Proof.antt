@@ -1,3 +1,4 @@
+-- `wire::write_reply` meets its contract.
 use Rattle.wire.specs.Messages.{replyOf}
 use Rattle.wire.proofs.Replies.{replied-no, replied-none, replied-one, replied-two}
 use borrow.Author.Needs.{needs}
