@@ -22,7 +22,7 @@ use Rattle.text.proofs.Decimals.{decimal-small, decimal-large}
 use Rattle.text.specs.Fields.{Field, _is_, fieldBytes, layout}
 use Rattle.text.proofs.Layouts.{field-text, piece-length, tag-run, tag-some, tag-few, tag-lead, tag-back, tag-equals, tag-value, piece-unmarked}
 use Rattle.field.specs.Pieces.{Pieces, piecesOf, tagged, tagOf, valueAfter, valued, carries, valuesOf, pieceScan, scanOf}
-use Rattle.field.specs.Written.{Each, none, also, Plain, Whole, pieceOf, valuesWith}
+use Rattle.field.specs.Written.{Each, none, also, Unmarked, Plain, Whole, pieceOf, valuesWith}
 use Rattle.field.specs.declared.Scan.the-variants.{Sound}
 use Rattle.field.proofs.Cuts.{pieces-mark}
 use Rattle.field.proofs.Heads.{stands-in}
@@ -38,6 +38,9 @@ each-map t (also {f} h e) = also (t f h) (each-map t e)
 
 pub plain-of : {fs : List Field} → Each Whole fs → Each Plain fs
 plain-of e = each-map (λ f w. w .plain) e
+
+pub unmarked-of : {fs : List Field} → Each Plain fs → Each Unmarked fs
+unmarked-of e = each-map (λ f p. p .unmarked) e
 
 -- ---- one piece
 module _ (tag : ℕ) (v : List ℕ) (low : 1 ≤ tag) (high : tag ≤ 99999) where
@@ -74,17 +77,17 @@ module _ (f : Field) (h : Plain f) where
   unfolding pieceScan
   piece-sound g = rw (piece-tagged, piece-valued g)
 
-  pub pieces-field : (rest : List ℕ) → piecesOf (fieldBytes f ++ rest) ≡ pieceOf f ∷ piecesOf rest
-  pieces-field rest =
-      ap (λ (l : List ℕ). piecesOf (l ++ rest)) (field-text (f .tag) (f .value))
-      ∙ ap piecesOf (append-assoc (pieceOf f) (1 ∷ []) rest)
-      ∙ pieces-mark (pieceOf f) rest (piece-unmarked (f .tag) (f .value) (h .unmarked))
-
 -- ---- fields laid out, one after another
-pub pieces-layout : {fs : List Field} → Each Plain fs → piecesOf (layout fs) ≡ map pieceOf fs
+pub pieces-field : (f : Field) (rest : List ℕ) → Unmarked f → piecesOf (fieldBytes f ++ rest) ≡ pieceOf f ∷ piecesOf rest
+pieces-field f rest h =
+    ap (λ (l : List ℕ). piecesOf (l ++ rest)) (field-text (f .tag) (f .value))
+    ∙ ap piecesOf (append-assoc (pieceOf f) (1 ∷ []) rest)
+    ∙ pieces-mark (pieceOf f) rest (piece-unmarked (f .tag) (f .value) h)
+
+pub pieces-layout : {fs : List Field} → Each Unmarked fs → piecesOf (layout fs) ≡ map pieceOf fs
 unfolding piecesOf
 pieces-layout none = refl
-pieces-layout {fs = f ∷ fs} (also h e) = pieces-field f h (layout fs) ∙ ap (λ (ps : Pieces). pieceOf f ∷ ps) (pieces-layout e)
+pieces-layout {fs = f ∷ fs} (also h e) = pieces-field f (layout fs) h ∙ ap (λ (ps : Pieces). pieceOf f ∷ ps) (pieces-layout e)
 
 values-pieces : (tag : ℕ) {fs : List Field} → Each Plain fs → valuesOf tag (map pieceOf fs) ≡ valuesWith tag fs
 unfolding valuesOf
@@ -92,7 +95,7 @@ values-pieces tag none = refl
 values-pieces tag (also {f} h e) = rw (piece-carries f h tag, piece-value f h, values-pieces tag e)
 
 pub values-layout : (tag : ℕ) {fs : List Field} → Each Plain fs → valuesOf tag (piecesOf (layout fs)) ≡ valuesWith tag fs
-values-layout tag e = ap (valuesOf tag) (pieces-layout e) ∙ values-pieces tag e
+values-layout tag e = ap (valuesOf tag) (pieces-layout (unmarked-of e)) ∙ values-pieces tag e
 
 scan-pieces : {fs : List Field} → Each Whole fs → scanOf (map pieceOf fs) ≡ Sound
 unfolding scanOf
@@ -100,7 +103,7 @@ scan-pieces none = refl
 scan-pieces (also {f} h e) = rw (piece-sound f (h .plain) (h .some), scan-pieces e)
 
 pub scan-layout : {fs : List Field} → Each Whole fs → scanOf (piecesOf (layout fs)) ≡ Sound
-scan-layout e = ap scanOf (pieces-layout (plain-of e)) ∙ scan-pieces e
+scan-layout e = ap scanOf (pieces-layout (unmarked-of (plain-of e))) ∙ scan-pieces e
 
 -- ---- a piece carries a tag exactly where it begins with the tag's digits and `=`
 

@@ -15,11 +15,15 @@ pub data Each (P : Field → Type 0) : List Field → Type 0 where
   none : Each P []
   also : {f : Field} {fs : List Field} → P f → Each P fs → Each P (f ∷ fs)
 
--- its tag has 1 to 5 digits, and its value has no `|`
+-- its value has no `|`
+abbrev pub Unmarked : Field → Type 0
+Unmarked f = untilByte 1 (f .value) ≡ length (f .value)
+
+-- its tag has 1 to 5 digits besides
 pub record Plain (f : Field) : Type 0 where
   pub low : 1 ≤ f .tag
   pub high : f .tag ≤ 99999
-  pub unmarked : untilByte 1 (f .value) ≡ length (f .value)
+  pub unmarked : Unmarked f
 
 -- "a value of at least one byte" besides
 pub record Whole (f : Field) : Type 0 where

@@ -1,3 +1,4 @@
+-- The first of two faults, by cases.
 use borrow.Author.Needs.{needs}
 use Rattle.field.proofs.and_then.Statement.{statement}
 use Rattle.field.proofs.and_then.Tie as tie

@@ -1,3 +1,4 @@
+-- A piece counts where it is of the tag.
 use borrow.Author.Needs.{needs}
 use borrow.Author.Tests.{eq-eqb, ne-eqb}
 use native.Mathlib.Omega.{arith}

@@ -1,3 +1,4 @@
+-- The fault of a piece, by cases.
 use borrow.Author.Needs.{needs}
 use borrow.Author.Tests.{eq-eqb, ne-eqb}
 use Rattle.field.proofs.fault_of.Statement.{statement}

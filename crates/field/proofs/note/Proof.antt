@@ -1,3 +1,4 @@
+-- A field goes to its tag's slot.
 use borrow.Author.Needs.{needs}
 use Rattle.field.specs.Index.{noted}
 use Rattle.field.proofs.note.Statement.{statement}

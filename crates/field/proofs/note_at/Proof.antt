@@ -1,3 +1,4 @@
+-- A first field is kept, a further one is counted.
 use borrow.Author.Needs.{needs}
 use borrow.Author.Tests.{lt-ltb, le-ltb, eq-eqb, ne-eqb}
 use Rattle.field.specs.Index.{notedAt}

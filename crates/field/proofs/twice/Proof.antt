@@ -1,3 +1,4 @@
+-- More than one is two by a count that stops at 2.
 use borrow.Author.Needs.{needs}
 use mathlib.Core.Path.{ap, _∙_}
 use lib.ListN.{length}

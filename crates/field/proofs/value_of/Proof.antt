@@ -1,3 +1,4 @@
+-- A value stands where its field's place says.
 use borrow.Author.Needs.{needs}
 use Rattle.field.proofs.Cuts.{value-at}
 use Rattle.field.proofs.value_of.Statement.{statement}
