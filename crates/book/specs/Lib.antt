@@ -1,2 +1,3 @@
 pub mod Place
 pub mod Memory
+pub mod Known

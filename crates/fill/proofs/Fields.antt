@@ -7,25 +7,25 @@
 use mathlib.Core.Path.{_≡_, refl, sym, ap, _∙_}
 use mathlib.Core.List.{List, [], _∷_, _++_, append-nil}
 use mathlib.Core.Logic.{_⊎_, inl, inr, ⊎-elim}
-use mathlib.Core.Bool.{Bool, true, cond, _&&_}
-use Prim.Native.Nat.{ℕ, zero, suc, _+_, _-_, _≤_, _<_, _^_, min}
+use mathlib.Core.Bool.{true, cond}
+use Prim.Native.Nat.{ℕ, zero, suc, _+_, _-_, _≤_, _<_, _^_}
 use native.Mathlib.Nat.{zero-add, pow-zero, div-one}
 use native.Mathlib.Omega.{arith}
 use lib.ListN.{length, getD, take, drop, set, replicate, replicate-append-replicate, length-append, length-take, length-replicate, List·getD-eq-default}
 use lib.Seq.{take-all, take-at, length-take-le}
-use lib.Dec.{eqb, leb}
+use lib.Dec.{eqb}
 use borrow.Author.Tests.{eq-eqb, ne-eqb, eqb-true, le-leb}
 use Rattle.octet.specs.Bytes.{bytesOf, between, allIn, part, joined, sumOf}
 use Rattle.octet.specs.Places.{HighFirst, numberBytes, numberIn, high, bigEndian}
 use Rattle.octet.specs.Splice.{splice}
-use Rattle.octet.specs.Padded.{fitsWidth, padded, paddedOk, textOf}
+use Rattle.octet.specs.Padded.{fitsWidth, padded, textOf}
 use Rattle.octet.proofs.Cases.{le-or-lt, of-cond, cond-true}
 use Rattle.octet.proofs.Lists.{between-high, drop-step, drop-done, part-past, splice-in, splice-then, splice-whole, set-splice}
 use Rattle.octet.proofs.Places.{number-length, number-back}
 use Rattle.octet.proofs.Padded.{fits-width, padded-length, padded-back, padded-ok}
 use Rattle.value.specs.Value.{isTime}
 use Rattle.value.proofs.Times.{time-is, time-filled}
-use Rattle.fill.specs.Slot.{Fill, widths, bodyWidth, slotWidth, mostFills, bookWidth, textField, fullTime, timeField, partsOf, bodyOf, slotOf, fillMark, field, execOf, orderOf, symbolOf, sideOf, quantityOf, sharesOf, priceOf, cumOf, timeOf, textLawful, sumsLawful, slotLawful}
+use Rattle.fill.specs.Slot.{Fill, widths, bodyWidth, slotWidth, mostFills, bookWidth, textField, fullTime, timeField, partsOf, bodyOf, slotOf, fillMark, field, execOf, orderOf, symbolOf, sideOf, quantityOf, sharesOf, priceOf, cumOf, timeOf, textLawful, slotLawful}
 use Rattle.fill.proofs.Parts.{lengthsOf, joined-length, part-laid, written, written-joined}
 
 pub slot-size : slotWidth ≡ 94

@@ -1,7 +1,7 @@
 -- The tests of a lawful slot, put together from what each of them said: an early return names the tests up to its own.
 --     texts-by, sums-by, lawful-by     the definition, test by test
 --     time-yes, time-form, time-range     what the reader of a time answers, as a test
-use mathlib.Core.Path.{_≡_, refl, sym}
+use mathlib.Core.Path.{_≡_, sym}
 use mathlib.Core.List.{List}
 use mathlib.Core.Bool.{Bool, true, false, _&&_}
 use Prim.Native.Nat.{ℕ}

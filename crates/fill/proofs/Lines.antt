@@ -1,6 +1,6 @@
 -- A fill's line of the listing: how it is written word by word, and how long it is.
 --     line-short     a line has at most 128 bytes
-use mathlib.Core.Path.{_≡_, refl, sym, ap, _∙_}
+use mathlib.Core.Path.{_≡_, refl, ap, _∙_}
 use mathlib.Core.List.{List, [], _∷_, _++_}
 use mathlib.Core.Logic.{⊎-elim}
 use mathlib.Core.Bool.{true, cond}
@@ -17,7 +17,7 @@ use Rattle.octet.proofs.Lists.{is-between, part-at}
 use Rattle.octet.proofs.Places.{below-pow, value-below}
 use Rattle.octet.specs.Splice.{splice, fitsAt}
 use Rattle.octet.specs.Padded.{textOf}
-use Rattle.text.specs.Decimal.{decimal, fixed, priceText}
+use Rattle.text.specs.Decimal.{priceText}
 use Rattle.text.specs.Writing.{puts, held, empty}
 use Rattle.text.proofs.Decimals.{decimal-length, fixed-length}
 use Rattle.text.proofs.Puts.{puts-puts, held-short}

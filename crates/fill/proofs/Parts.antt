@@ -3,11 +3,10 @@
 --     part-joined, part-laid     part i of a layout, and with a byte before the first
 --     written-joined     parts that are written one after another are the layout written
 use mathlib.Core.Path.{_≡_, refl, sym, ap, _∙_}
-use mathlib.Core.List.{List, [], _∷_, _++_, append-assoc}
+use mathlib.Core.List.{List, [], _∷_}
 use Prim.Native.Nat.{ℕ, zero, suc, _+_, _≤_}
-use native.Mathlib.Nat.{zero-add, add-assoc}
 use native.Mathlib.Omega.{arith}
-use lib.ListN.{length, getD, take, drop, length-append}
+use lib.ListN.{length, getD, take, length-append}
 use lib.Seq.{take-append-seam}
 use Rattle.octet.specs.Bytes.{part, joined, sumOf}
 use Rattle.octet.specs.Splice.{splice}

@@ -1,5 +1,5 @@
 use mathlib.Core.Path.{refl, sym, ap, _∙_}
-use borrow.Author.Tests.{not-true, not-false, lt-leb, le-leb}
+use borrow.Author.Tests.{not-true, not-false}
 use denote.Ref.{now}
 use Rattle.fill.specs.Slot.{textLawful}
 use Rattle.fill.proofs.Lawful.{texts-by}

@@ -1,0 +1,4 @@
+pub mod Slots
+pub mod Finds
+pub mod Placing
+pub mod Unique

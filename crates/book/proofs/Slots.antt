@@ -1,0 +1,135 @@
+-- The slots of a lent memory.
+--     slots-length     there are as many as are counted
+--     slots-next     what is left of n slots after i of them: one more, and the rest
+--     slots-drop, slots-nth     the slots from i on, and the i-th
+--     slots-append     a slot written after the last is one slot more
+--     slots-joined     a memory that begins with slots, one after another, has those slots
+--     appended-length     what is written leaves the memory's length
+use mathlib.Core.Path.{_≡_, refl, sym, ap, ap₂, _∙_}
+use mathlib.Core.List.{List, [], _∷_, _++_, append-assoc}
+use mathlib.Core.Bool.{false}
+use Prim.Native.Nat.{ℕ, zero, suc, _+_, _-_, _*_, _≤_, _<_}
+use native.Mathlib.Nat.{sub-zero, zero-sub, suc-sub-suc, sub-eq-zero-of-le, le-refl}
+use native.Mathlib.Numerals.{add-one}
+use native.Mathlib.Omega.{arith}
+use lib.ListN.{length, take, drop, getD}
+use lib.Seq.{drop-drop, take-take, take-at, drop-at}
+use lib.Dec.{ltb, eqb}
+use borrow.Author.Tests.{lt-ltb, eq-eqb}
+use Rattle.octet.specs.Bytes.{part, joined}
+use Rattle.octet.specs.Splice.{splice}
+use Rattle.octet.proofs.Cases.{of-cond, and-make, cond-true, cond-false}
+use Rattle.octet.proofs.Lists.{drop-take, splice-read, splice-before, splice-length}
+use Rattle.fill.specs.Slot.{Slot, slotWidth, mostFills, bookWidth}
+use Rattle.book.specs.Memory.{slotsIn, fitsAfter, appended}
+
+-- the slot at i lies within n of them
+pub slot-within : (n i : ℕ) → i < n → i * slotWidth + slotWidth ≤ n * slotWidth
+slot-within n i h = omega arith
+
+pub slots-length : (n : ℕ) (m : List ℕ) → length (slotsIn n m) ≡ n
+unfolding slotsIn
+slots-length zero m = refl
+slots-length (suc n) m = ap suc (slots-length n (drop slotWidth m))
+
+-- one slot more at the front
+pub slots-cons : (n : ℕ) (m : List ℕ) → slotsIn (suc n) m ≡ take slotWidth m ∷ slotsIn n (drop slotWidth m)
+unfolding slotsIn
+slots-cons n m = refl
+
+-- what is left of n slots after i of them
+pub slots-next : (n i : ℕ) (m : List ℕ) → i < n
+    → slotsIn (n - i) (drop (i * slotWidth) m) ≡ part (i * slotWidth) slotWidth m ∷ slotsIn (n - (i + 1)) (drop ((i + 1) * slotWidth) m)
+slots-next n i m h =
+    let e : n - i ≡ suc (n - (i + 1)) = omega arith in
+    let f : i * slotWidth + slotWidth ≡ (i + 1) * slotWidth = omega arith in
+    ap (λ (k : ℕ). slotsIn k (drop (i * slotWidth) m)) e
+    ∙ slots-cons (n - (i + 1)) (drop (i * slotWidth) m)
+    ∙ ap (λ (l : List ℕ). part (i * slotWidth) slotWidth m ∷ slotsIn (n - (i + 1)) l) (drop-drop slotWidth (i * slotWidth) m ∙ ap (λ (k : ℕ). drop k m) f)
+
+pub slots-first : (n : ℕ) (m : List ℕ) → slotsIn n m ≡ slotsIn (n - 0) (drop (0 * slotWidth) m)
+slots-first n m = rw sub-zero
+
+pub slots-last : (n i : ℕ) (m : List ℕ) → n ≤ i → slotsIn (n - i) m ≡ []
+unfolding slotsIn
+slots-last n i m h = rw sub-eq-zero-of-le
+
+-- the slots from i on, and the i-th
+pub slots-drop : (n i : ℕ) (m : List ℕ) → drop i (slotsIn n m) ≡ slotsIn (n - i) (drop (i * slotWidth) m)
+unfolding slotsIn
+slots-drop n zero m = rw sub-zero
+slots-drop zero (suc i) m = rw zero-sub
+slots-drop (suc n) (suc i) m =
+    let e : slotWidth + i * slotWidth ≡ suc i * slotWidth = omega arith in
+    slots-drop n i (drop slotWidth m) ∙ ap₂ (λ (j : ℕ) (l : List ℕ). slotsIn j l) (sym (suc-sub-suc n i)) (drop-drop (i * slotWidth) slotWidth m ∙ ap (λ (k : ℕ). drop k m) e)
+
+pub slots-nth : (n i : ℕ) (m : List ℕ) → i < n → getD (slotsIn n m) i [] ≡ part (i * slotWidth) slotWidth m
+unfolding slotsIn
+slots-nth zero i m h = absurd (omega arith)
+slots-nth (suc n) zero m h = refl
+slots-nth (suc n) (suc i) m h =
+    let e : slotWidth + i * slotWidth ≡ suc i * slotWidth = omega arith in
+    slots-nth n i (drop slotWidth m) (omega arith) ∙ ap (take slotWidth) (drop-drop (i * slotWidth) slotWidth m ∙ ap (λ (k : ℕ). drop k m) e)
+
+-- ---- one slot more at the end
+slots-snoc : (n : ℕ) (m : List ℕ) → slotsIn (suc n) m ≡ slotsIn n m ++ (part (n * slotWidth) slotWidth m ∷ [])
+unfolding slotsIn
+slots-snoc zero m = refl
+slots-snoc (suc n) m =
+    let e : slotWidth + n * slotWidth ≡ suc n * slotWidth = omega arith in
+    ap (λ (l : List Slot). take slotWidth m ∷ l)
+    (slots-snoc n (drop slotWidth m)
+    ∙ ap (λ (l : List ℕ). slotsIn n (drop slotWidth m) ++ (take slotWidth l ∷ [])) (drop-drop (n * slotWidth) slotWidth m ∙ ap (λ (k : ℕ). drop k m) e))
+
+-- the slots go by their own bytes alone
+pub slots-same : (n : ℕ) (m m′ : List ℕ) → take (n * slotWidth) m ≡ take (n * slotWidth) m′ → slotsIn n m ≡ slotsIn n m′
+unfolding slotsIn
+slots-same zero m m′ h = refl
+slots-same (suc n) m m′ h =
+    let one : (l : List ℕ) → take slotWidth (take (suc n * slotWidth) l) ≡ take slotWidth l = λ l. take-take slotWidth (suc n * slotWidth) l (omega arith) in
+    let k : suc n * slotWidth - slotWidth ≡ n * slotWidth = omega arith in
+    let rest : (l : List ℕ) → drop slotWidth (take (suc n * slotWidth) l) ≡ take (n * slotWidth) (drop slotWidth l) =
+    λ l. drop-take slotWidth (suc n * slotWidth) l ∙ ap (λ (j : ℕ). take j (drop slotWidth l)) k in
+    let p : take slotWidth m ≡ take slotWidth m′ = sym (one m) ∙ ap (take slotWidth) h ∙ one m′ in
+    let q = slots-same n (drop slotWidth m) (drop slotWidth m′) (sym (rest m) ∙ ap (drop slotWidth) h ∙ rest m′) in
+    cc
+
+pub appended-in : (m : List ℕ) (count : ℕ) (s : Slot) → count < mostFills → length s ≡ slotWidth → appended m count s ≡ splice m (count * slotWidth) s
+unfolding appended
+appended-in m count s h e =
+    cond-true _ _ _ (and-make (ltb count mostFills) (eqb (length s) slotWidth) (lt-ltb count mostFills h) (eq-eqb (length s) slotWidth e))
+
+pub appended-out : (m : List ℕ) (count : ℕ) (s : Slot) → fitsAfter count s ≡ false → appended m count s ≡ m
+unfolding appended
+appended-out m count s e = cond-false _ _ _ e
+
+-- a slot written after the last is one slot more
+pub slots-append : (m : List ℕ) (count : ℕ) (s : Slot) → count < mostFills → length s ≡ slotWidth → length m ≡ bookWidth
+    → slotsIn (count + 1) (appended m count s) ≡ slotsIn count m ++ (s ∷ [])
+slots-append m count s h e l =
+    let p = count * slotWidth in
+    let f : p + length s ≤ length m = omega arith in
+    let r : part p slotWidth (splice m p s) ≡ s = rw e at (splice-read m p s f) in
+    ap₂ slotsIn (add-one count) (appended-in m count s h e)
+    ∙ slots-snoc count (splice m p s)
+    ∙ ap₂ (λ (t : List Slot) (x : Slot). t ++ (x ∷ [])) (slots-same count _ _ (splice-before m p s p (le-refl p))) r
+
+pub appended-length : (m : List ℕ) (count : ℕ) (s : Slot) → length (appended m count s) ≡ length m
+unfolding appended
+appended-length m count s = of-cond (λ (l : List ℕ). length l ≡ length m) (fitsAfter count s) (λ e. splice-length m (count * slotWidth) s) (λ e. refl)
+
+-- ---- a memory that begins with slots, one after another
+-- each has the width of a slot
+pub data Wide : List Slot → Type 0 where
+  none-wide : Wide []
+  more-wide : {s : Slot} {ss : List Slot} → length s ≡ slotWidth → Wide ss → Wide (s ∷ ss)
+
+pub slots-joined : (ss : List Slot) (rest : List ℕ) → Wide ss → slotsIn (length ss) (joined ss ++ rest) ≡ ss
+unfolding slotsIn
+slots-joined [] rest none-wide = refl
+slots-joined (s ∷ ss) rest (more-wide h w) =
+    let e = append-assoc s (joined ss) rest in
+    let p : take slotWidth ((s ++ joined ss) ++ rest) ≡ s = ap (take slotWidth) e ∙ take-at s (joined ss ++ rest) slotWidth h in
+    let q : drop slotWidth ((s ++ joined ss) ++ rest) ≡ joined ss ++ rest = ap (drop slotWidth) e ∙ drop-at s (joined ss ++ rest) slotWidth h in
+    let r = slots-joined ss rest w in
+    ap₂ (λ (x : Slot) (l : List ℕ). x ∷ slotsIn (length ss) l) p q ∙ ap (λ (t : List Slot). s ∷ t) r
