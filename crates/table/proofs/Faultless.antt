@@ -93,6 +93,28 @@ faultless setup phase o ps e =
           subst (Passes o ps) (getD-append-add headerRows (rowsOf k) i noRow) (walk-row o ps rows (length headerRows + i) (q .1) (omega (arith, length-append headerRows (rowsOf k))));
     }
 
+-- and where each part has none, there is none
+all-pass : (o : ℕ) (ps : Pieces) (rows : List Row) → ((i : ℕ) → i < length rows → Passes o ps (getD rows i noRow)) → walk o (atPieces ps) rows ≡ none
+unfolding walk
+all-pass o ps [] f = refl
+all-pass o ps (r ∷ rows) f = rw (f 0 (omega arith), all-pass o ps rows (λ i h. f (suc i) (omega arith)))
+
+rows-pass : (o : ℕ) (ps : Pieces) (rs ts : List Row) → walk o (atPieces ps) rs ≡ none → walk o (atPieces ps) ts ≡ none → walk o (atPieces ps) (rs ++ ts) ≡ none
+unfolding walk
+rows-pass o ps [] ts e f = f
+rows-pass o ps (r ∷ rs) ts e f =
+    let p = none-both (rowFault o (λ (tag : ℕ). numberAt tag ps) r (valuesOf (r .tag) ps)) (walk o (atPieces ps) rs) e in
+    rw (p .0, rows-pass o ps rs ts (p .1) f)
+
+pub no-fault : (setup : Setup) (phase : Phase) (o : ℕ) (ps : Pieces) → Faultless setup phase o ps → faultIn setup phase o ps ≡ none
+unfolding faultIn firstFault
+no-fault setup phase o ps f =
+    rw (
+      f .sound,
+      f .listed,
+      rows-pass o ps headerRows (rowsOf (kindIn setup ps)) (all-pass o ps headerRows (f .header)) (all-pass o ps (rowsOf (kindIn setup ps)) (f .own)),
+    )
+
 -- ---- one row
 
 -- a row's tag stands once, with a value of its form and in its range
@@ -129,6 +151,15 @@ module _ (o : ℕ) (ps : Pieces) (row : Row) where
 
   pub kept : row .needed ≡ true → Passes o ps row → Kept o ps row
   kept n e = ⊎-elim (λ p. true-not-false (sym n ∙ p .0)) (λ q. q) (kept-or e)
+
+  -- and the other way
+  pub kept-passes : Kept o ps row → Passes o ps row
+  unfolding rowFault
+  kept-passes k = rw (k .once, k .formed, k .ranged)
+
+  pub absent-passes : row .needed ≡ false → valuesOf (row .tag) ps ≡ [] → Passes o ps row
+  unfolding rowFault
+  absent-passes n e = rw (e, n)
 
 -- ---- one form: what it says of the value
 

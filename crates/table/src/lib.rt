@@ -14,6 +14,7 @@ ghost use mathlib.Core.Bool.{true};
 ghost use mathlib.Core.List.{_++_};
 ghost use mathlib.Core.Option.{none, some};
 ghost use Prim.Native.Nat.{_≤_};
+ghost use lib.ListN.{length};
 ghost use Rattle.value.specs.Value.{badPrice};
 ghost use Rattle.value.specs.Readers.{checked};
 ghost use Rattle.answer.specs.Numbers.{fault};
@@ -239,60 +240,38 @@ const REPORT: [Row; 14] = [
     },
 ];
 
+// How many rows a type has of its own.
+fn own_rows(kind: Kind) -> usize
+    ensures { λ r. ⌜ r ≡ length (rowsOf kind) ⌝ }
+{
+    match kind {
+        Kind::Logon => LOGON.len(),
+        Kind::Heartbeat => HEARTBEAT.len(),
+        Kind::Test => TEST.len(),
+        Kind::Resend => RESEND.len(),
+        Kind::Reset => RESET.len(),
+        Kind::Logout => 0,
+        Kind::Report => REPORT.len(),
+        Kind::Other => 0,
+        Kind::Unlisted => 0,
+    }
+}
+
 // The row at a place of a type's own rows.
 fn own_row(kind: Kind, i: usize) -> Cell
     ensures { λ r. ⌜ r ≡ cellOf (rowsOf kind) i ⌝ }
 {
+    if own_rows(kind) <= i {
+        return Cell::End;
+    }
     match kind {
-        Kind::Logon => {
-            if i < LOGON.len() {
-                let row = LOGON[i];
-                Cell::Here(row)
-            } else {
-                Cell::End
-            }
-        }
-        Kind::Heartbeat => {
-            if i < HEARTBEAT.len() {
-                let row = HEARTBEAT[i];
-                Cell::Here(row)
-            } else {
-                Cell::End
-            }
-        }
-        Kind::Test => {
-            if i < TEST.len() {
-                let row = TEST[i];
-                Cell::Here(row)
-            } else {
-                Cell::End
-            }
-        }
-        Kind::Resend => {
-            if i < RESEND.len() {
-                let row = RESEND[i];
-                Cell::Here(row)
-            } else {
-                Cell::End
-            }
-        }
-        Kind::Reset => {
-            if i < RESET.len() {
-                let row = RESET[i];
-                Cell::Here(row)
-            } else {
-                Cell::End
-            }
-        }
+        Kind::Logon => Cell::Here(LOGON[i]),
+        Kind::Heartbeat => Cell::Here(HEARTBEAT[i]),
+        Kind::Test => Cell::Here(TEST[i]),
+        Kind::Resend => Cell::Here(RESEND[i]),
+        Kind::Reset => Cell::Here(RESET[i]),
         Kind::Logout => Cell::End,
-        Kind::Report => {
-            if i < REPORT.len() {
-                let row = REPORT[i];
-                Cell::Here(row)
-            } else {
-                Cell::End
-            }
-        }
+        Kind::Report => Cell::Here(REPORT[i]),
         Kind::Other => Cell::End,
         Kind::Unlisted => Cell::End,
     }
