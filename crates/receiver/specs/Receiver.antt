@@ -8,7 +8,6 @@ use lib.Dec.{ltb, eqb}
 use Rattle.octet.specs.Bytes.{between, allIn}
 use Rattle.octet.specs.Maybe.{orElse}
 use Rattle.value.specs.Value.{isTime}
-use Rattle.note.specs.Notes.{Note, noteBytes}
 use Rattle.session.specs.Session.{isOff, isOn, mayCall}
 use Rattle.session.specs.declared.Own.{Own}
 use Rattle.queue.specs.Queue.{shortNote, shortLine}
@@ -19,11 +18,10 @@ use Rattle.answer.specs.Setup.{idWith}
 use Rattle.answer.specs.declared.Setup.{Setup}
 use Rattle.answer.specs.declared.Refusal.{Refusal}
 use Rattle.answer.specs.declared.Refusal.the-variants as refusal
-use Rattle.receiver.specs.State.{State, stored, Did, quiet}
+use Rattle.receiver.specs.State.{State, Did, quiet}
 use Rattle.receiver.specs.Calls.{owned, lost, message, offer, beginAgain, acknowledge, newDay, restarted}
 use Rattle.receiver.specs.declared.Answer.{Answer}
 use Rattle.receiver.specs.declared.Answer.the-variants.{Done, Refused, More, Garbled, Framed, Offered, None, Acked, Already, Restarted}
-use Rattle.receiver.specs.declared.Told.{Told}
 use Rattle.receiver.specs.declared.SetUp.{SetUp}
 use Rattle.receiver.specs.declared.SetUp.the-variants as setUp
 
@@ -115,19 +113,6 @@ does setup st b w = unless-refused st (refusalOf st b w) (unrefused setup st w)
 
 -- ---- the receiver
 
--- "for each input it determines the answer, the state and every lent byte": what is written to each buffer, and the tally after
-pub record Result : Type 0 where
-  pub answer : Answer
-  pub next : State
-  pub reply : List ℕ
-  pub note : List ℕ
-  pub line : List ℕ
-  pub tally : Tally
-
-abbrev pub bytesOfNote : Option Note → List ℕ
-bytesOfNote none = []
-bytesOfNote (some note) = noteBytes note
-
 -- a message call brings the tally up to date
 abbrev pub tallyAfter : Answer → Tally → Tally
 tallyAfter (Framed len o) t = tallied o t
@@ -141,26 +126,13 @@ tallyAfter Acked t = t
 tallyAfter Already t = t
 tallyAfter (Restarted n) t = t
 
+-- "for each input it determines the answer, the state and every lent byte": what the call does, and the tally after it
+pub record Result : Type 0 where
+  pub did : Did
+  pub tally : Tally
+
 abbrev pub resultOf : Tally → Did → Result
-resultOf t d = record {
-  answer = d .answer;
-  next = d .next;
-  reply = d .reply;
-  note = bytesOfNote (d .note);
-  line = d .line;
-  tally = tallyAfter (d .answer) t;
-}
+resultOf t d = record { did = d; tally = tallyAfter (d .answer) t }
 
 unfoldable pub call : Setup → State → Lent → Tally → What → Result
 call setup st b t w = resultOf t (does setup st b w)
-
--- what the code hands back of it
-unfoldable pub toldOf : Result → Told
-toldOf r = record {
-  answer = r .answer;
-  state = stored (r .next);
-  reply = length (r .reply);
-  note = length (r .note);
-  line = length (r .line);
-  tally = r .tally;
-}
