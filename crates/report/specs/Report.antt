@@ -68,9 +68,13 @@ rule39 r = same (r .status) (r .execType)
 abbrev pub unlessKept : ℕ → Bool → Option Fault
 unlessKept tag kept = cond kept none (some (fault 5 tag))
 
+-- the first that is not kept, in this order
+abbrev pub firstBroken : Bool → Bool → Bool → Bool → Option Fault
+firstBroken kept14 kept151 kept150 kept39 =
+    orElse (unlessKept 14 kept14) (orElse (unlessKept 151 kept151) (orElse (unlessKept 150 kept150) (unlessKept 39 kept39)))
+
 unfoldable pub ruleFault : Report → Option Fault
-ruleFault r =
-    orElse (unlessKept 14 (rule14 r)) (orElse (unlessKept 151 (rule151 r)) (orElse (unlessKept 150 (rule150 r)) (unlessKept 39 (rule39 r))))
+ruleFault r = firstBroken (rule14 r) (rule151 r) (rule150 r) (rule39 r)
 
 -- "A report with 442 is set aside: heard, not booked", after the rules
 abbrev pub afterRules : Bool → Option Fault → Reported

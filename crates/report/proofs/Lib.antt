@@ -1,0 +1,3 @@
+pub mod Rules
+pub mod IndexLaws
+pub mod Unique

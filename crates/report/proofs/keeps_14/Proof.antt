@@ -1,0 +1,15 @@
+use mathlib.Core.Path.{sym}
+use native.Mathlib.Omega.{arith}
+use borrow.Author.Tests.{le-leb}
+use Rattle.octet.proofs.Lists.{is-below}
+use Rattle.report.proofs.keeps_14.Statement.{statement}
+use Rattle.report.proofs.keeps_14.Tie as tie
+
+returns : tie.Need-returns
+returns c = let s = c .before .before .args .sums in sym (is-below (s .shares) (s .quantity) (s .cum) (c .if1 .taken))
+
+returns-2 : tie.Need-returns-2
+returns-2 c = let s = c .before .before .before .args .sums in rw (le-leb (s .shares) (s .cum) (omega arith))
+
+pub keeps-14-spec : {M : Type 1} → statement M
+keeps-14-spec = tie.close (tie.spec returns returns-2)
