@@ -1,22 +1,24 @@
 -- "What we write our reader reads back" field for field, whatever is said.
 --     reads-back     framed at its length, its body found, its fields sound, each with its value, and numbers as they were
 --     header-read    in particular 35, 34, 49, 56 and 52
+--     two-read     of a reply of two messages the first is framed, and after it stands the second
 use mathlib.Core.Path.{_≡_, refl, ap, _∙_}
-use mathlib.Core.List.{List, [], _∷_, _++_}
+use mathlib.Core.List.{List, [], _∷_, _++_, append-assoc}
 use mathlib.Core.Option.{some}
 use mathlib.Core.Bool.{Bool, true, false, not}
 use Prim.Native.Nat.{ℕ, _≤_}
 use native.Mathlib.Nat.{le-of-eq}
 use native.Mathlib.Omega.{arith}
 use lib.ListN.{length, take, drop}
-use lib.Seq.{take-all}
+use lib.Seq.{take-all, drop-append-seam}
 use lib.Dec.{eqb}
 use Rattle.octet.specs.Bytes.{bytesOf}
 use Rattle.octet.specs.Maybe.{first, unless}
 use Rattle.text.specs.Decimal.{decimal}
 use Rattle.text.specs.Fields.{Field, _is_, said, layout}
 use Rattle.text.proofs.Decimals.{decimal-some, decimal-unmarked}
-use Rattle.frame.specs.Finding.{opening}
+use Rattle.frame.specs.Finding.{opening, foundIn}
+use Rattle.frame.specs.declared.Found.the-variants.{Framed}
 use Rattle.field.specs.Pieces.{Pieces, piecesOf, firstOf, textAt}
 use Rattle.field.specs.Written.{Each, none, also, Whole, valuesWith}
 use Rattle.field.proofs.Written.{each-append, plain-of, values-layout, scan-layout}
@@ -25,7 +27,8 @@ use Rattle.value.proofs.Back.{number-back}
 use Rattle.answer.specs.declared.Setup.{Setup}
 use Rattle.wire.specs.declared.Say.{Say}
 use Rattle.wire.specs.declared.Say.the-variants.{Logon, Heartbeat, Echo, Test, Logout, Resend, Reject, GapFill}
-use Rattle.wire.specs.Messages.{typeOf, isGapFill, numberOf, othersOf, headerOf, fieldsOf, messageOf}
+use Rattle.wire.specs.declared.Reply.the-variants.{Two}
+use Rattle.wire.specs.Messages.{typeOf, isGapFill, numberOf, othersOf, headerOf, fieldsOf, messageOf, numberAfter, replyOf}
 use Rattle.wire.specs.Reading.{Clear, ClearWord, Given, ReadsBack, HeaderRead}
 use Rattle.wire.proofs.Bounds.{body-short}
 use Rattle.wire.proofs.Framing.{framed-found, framed-body}
@@ -130,3 +133,21 @@ module _ (setup : Setup) (o : ℕ) (time word : List ℕ) (say : Say) (g : Given
         target = first-is 56;
         stamp = first-is 52 ∙ dated-first (isGapFill say) (take 21 time) (othersOf o word say) ∙ ap some given-time;
       }
+
+-- ---- a reply of two messages
+module _ (setup : Setup) (o : ℕ) (time word : List ℕ) (a b : Say) (g : Given setup o time word a) (rest : List ℕ) where
+  abbrev one : List ℕ
+  one = messageOf setup o time word a
+
+  abbrev other : List ℕ
+  other = messageOf setup (numberAfter o a) time word b
+
+  apart : replyOf setup o time word (Two a b) ++ rest ≡ one ++ (other ++ rest)
+  unfolding replyOf
+  apart = append-assoc one other rest
+
+  pub two-read :
+      (foundIn (replyOf setup o time word (Two a b) ++ rest) ≡ Framed (length one))
+      × (drop (length one) (replyOf setup o time word (Two a b) ++ rest) ≡ other ++ rest)
+  two-read =
+      (ap foundIn apart ∙ reads-back setup o time word a g .framed (other ++ rest), ap (drop (length one)) apart ∙ drop-append-seam one (other ++ rest))
