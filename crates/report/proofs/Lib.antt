@@ -1,3 +1,5 @@
 pub mod Rules
 pub mod IndexLaws
+pub mod Kept
+pub mod Lawful
 pub mod Unique

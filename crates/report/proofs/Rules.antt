@@ -6,7 +6,7 @@ use mathlib.Core.Path.{_≡_, refl, sym, ap, _∙_}
 use mathlib.Core.List.{List, [], _∷_}
 use mathlib.Core.Bool.{Bool, true, false, not, Bool·beq}
 use Prim.Native.Nat.{ℕ, _-_, _%_}
-use native.Mathlib.Nat.{pow-zero, div-one}
+use native.Mathlib.Nat.{pow-zero}
 use native.Mathlib.Omega.{arith}
 use lib.Dec.{eqb}
 use Rattle.octet.specs.Bytes.{between, same, is}
@@ -49,7 +49,7 @@ module _ (aside : Bool) (sums : Sums) (leaves : ℕ) (kind status : List ℕ) wh
 -- a number in one byte
 pub one-place : (n : ℕ) → high 1 (n % 256) ≡ high 1 n
 unfolding numberBytes
-one-place n = rw (pow-zero, div-one) (ap (λ (k : ℕ). k ∷ []) (omega arith))
+one-place n = rw pow-zero (ap (λ (k : ℕ). k ∷ []) (omega arith))
 
 module _ (text : ℕ → List ℕ) where
   pub sums-read : {q s k : ℕ} → q ≡ numberOr (text 38) → s ≡ numberOr (text 32) → k ≡ numberOr (text 14) → record { quantity = q; shares = s; cum = k } ≡ sumsOf text

@@ -1,0 +1,104 @@
+-- What the four rules and the answer over them say.
+--     kept, rules-kept     a report has no fault by the rules exactly where it keeps all four
+--     faulty-told, aside-told, fill-told     what each answer means
+--     tells-faulty, tells-aside, tells-fill     when each answer is given
+use mathlib.Core.Path.{_≡_, refl, sym, ap, _∙_, subst}
+use mathlib.Core.Option.{Option, none, some}
+use mathlib.Core.Bool.{Bool, true, false, Bool·beq}
+use Prim.Native.Nat.{ℕ, _-_, _≤_}
+use native.Mathlib.Omega.{arith}
+use lib.Dec.{eqb}
+use borrow.Author.Tests.{eqb-true, eq-eqb}
+use Rattle.octet.specs.Bytes.{is}
+use Rattle.octet.proofs.Lists.{same-true, same-of, is-between, between-low, between-high}
+use Rattle.answer.specs.declared.Fault.{Fault}
+use Rattle.report.specs.declared.Reported.{Reported}
+use Rattle.report.specs.declared.Reported.the-variants.{Faulty, Aside}
+use Rattle.report.specs.declared.Reported.the-variants as reported
+use Rattle.report.specs.Report.{Report, rule14, rule151, rule150, rule39, firstBroken, ruleFault, afterRules, reportedOf}
+
+-- "14 between 32's and 38's; 151 = 38 − 14; 150 is 2 exactly when 151 is 0; 39 equals 150"
+pub record Kept (r : Report) : Type 0 where
+  pub shares-cum : r .fill .shares ≤ r .fill .cum
+  pub cum-quantity : r .fill .cum ≤ r .fill .quantity
+  pub leaves : r .leaves ≡ r .fill .quantity - r .fill .cum
+  pub done : is "2" (r .execType) ≡ eqb (r .leaves) 0
+  pub status : r .status ≡ r .execType
+
+not-none : {A : Type 0} (f : Fault) → some f ≡ none → A
+not-none f e = absurd (let z : _≡_ {A = ℕ} 0 1 = cc in omega arith)
+
+all-kept : (a b d e : Bool) → firstBroken a b d e ≡ none → (a ≡ true) × (b ≡ true) × (d ≡ true) × (e ≡ true)
+all-kept true true true true z = (refl, refl, refl, refl)
+all-kept true true true false z = not-none _ z
+all-kept true true false e z = not-none _ z
+all-kept true false d e z = not-none _ z
+all-kept false b d e z = not-none _ z
+
+both-so : (p q : Bool) → Bool·beq p q ≡ true → p ≡ q
+both-so true true e = refl
+both-so true false e = sym e
+both-so false true e = e
+both-so false false e = refl
+
+so-both : (p : Bool) → Bool·beq p p ≡ true
+so-both true = refl
+so-both false = refl
+
+abbrev Told : Bool → Option Fault → Reported → Type 0
+Told aside o (Faulty f) = o ≡ some f
+Told aside o Aside = (o ≡ none) × (aside ≡ true)
+Told aside o reported.Fill = (o ≡ none) × (aside ≡ false)
+
+told-by : (aside : Bool) (o : Option Fault) → Told aside o (afterRules aside o)
+told-by aside (some f) = refl
+told-by true none = (refl, refl)
+told-by false none = (refl, refl)
+
+module _ (r : Report) where
+  pub kept : ruleFault r ≡ none → Kept r
+  unfolding ruleFault
+  kept e =
+      let all = all-kept (rule14 r) (rule151 r) (rule150 r) (rule39 r) e in
+      record {
+        shares-cum = between-low (r .fill .shares) (r .fill .quantity) (r .fill .cum) (all .0);
+        cum-quantity = between-high (r .fill .shares) (r .fill .quantity) (r .fill .cum) (all .0);
+        leaves = eqb-true _ _ (all .1);
+        done = both-so _ _ (all .2);
+        status = same-true _ _ (all .3);
+      }
+
+  pub rules-kept : Kept r → ruleFault r ≡ none
+  unfolding ruleFault
+  rules-kept k =
+      rw (
+        is-between (r .fill .shares) (r .fill .quantity) (r .fill .cum) (k .shares-cum) (k .cum-quantity),
+        eq-eqb (r .leaves) (r .fill .quantity - r .fill .cum) (k .leaves),
+        ap (λ (p : Bool). Bool·beq p (eqb (r .leaves) 0)) (k .done) ∙ so-both (eqb (r .leaves) 0),
+        same-of (r .status) (r .execType) (k .status),
+      )
+
+  -- what each answer means, and when it is given
+  pub faulty-told : (f : Fault) → reportedOf r ≡ Faulty f → ruleFault r ≡ some f
+  unfolding reportedOf
+  faulty-told f e = subst (Told (r .aside) (ruleFault r)) e (told-by (r .aside) (ruleFault r))
+
+  pub aside-told : reportedOf r ≡ Aside → (ruleFault r ≡ none) × (r .aside ≡ true)
+  unfolding reportedOf
+  aside-told e = subst (Told (r .aside) (ruleFault r)) e (told-by (r .aside) (ruleFault r))
+
+  pub fill-told : reportedOf r ≡ reported.Fill → (ruleFault r ≡ none) × (r .aside ≡ false)
+  unfolding reportedOf
+  fill-told e = subst (Told (r .aside) (ruleFault r)) e (told-by (r .aside) (ruleFault r))
+
+  pub tells-faulty : (f : Fault) → ruleFault r ≡ some f → reportedOf r ≡ Faulty f
+  unfolding reportedOf
+  tells-faulty f e = rw e
+
+  pub tells-aside : ruleFault r ≡ none → r .aside ≡ true → reportedOf r ≡ Aside
+  unfolding reportedOf
+  tells-aside e f = rw (e, f)
+
+  pub tells-fill : ruleFault r ≡ none → r .aside ≡ false → reportedOf r ≡ reported.Fill
+  unfolding reportedOf
+  tells-fill e f = rw (e, f)
