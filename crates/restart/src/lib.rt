@@ -1,4 +1,19 @@
-// A restart: from the notes to what they keep, or to the place of the first unlawful one.
+// A restart: from the notes to what they keep, or to the place of the first unlawful one. "A restart reads whole notes, drops a
+// part at the end, and says how many bytes are whole."
+ghost use mathlib.Core.Path.{_≡_};
+ghost use Prim.Native.Nat.{_+_, _≤_};
+ghost use lib.ListN.{length};
+ghost use Rattle.fill.specs.Slot.{bookWidth};
+ghost use Rattle.book.specs.Memory.{slotsIn};
+ghost use Rattle.book.specs.Place.{place, isNew};
+ghost use Rattle.note.specs.Notes.{Leaves, Books, Marks, Clears, readNote};
+ghost use Rattle.note.specs.Kept.{bookable, lawful, empty};
+ghost use Rattle.restart.specs.Restart.{restart, told, bookAfter, countsOf};
+ghost use Rattle.restart.specs.Steps.{keptIn, bare, raised, stepNote, stepRead, memNote, memRead, HasSlots};
+use book::Placed;
+use fill::BOOK;
+use fill::SLOT;
+use note::Read;
 
 // What the notes keep but for the slots, which are in the lent book.
 pub struct Counts {
@@ -13,4 +28,222 @@ pub struct Counts {
 pub enum Restarted {
     Again(Counts, usize),
     Unlawful(usize),
+}
+
+// What one note does: the restart goes on with these counts, ends before a part, or refuses.
+pub enum Step {
+    On(Counts),
+    End,
+    Bad,
+}
+
+// "both at most 999,999,999".
+const TOP: u32 = 999999999;
+
+// "S raises E or O".
+fn raises(m: Counts, e: u32, o: u32) -> bool
+    ensures { λ r. ⌜ r ≡ raised m e o ⌝ }
+{
+    if m.e < e {
+        return true;
+    }
+    m.o < o
+}
+
+// "S raises E or O, lowers neither, both at most 999,999,999".
+fn leaves_lawful(m: Counts, e: u32, o: u32) -> bool
+    ensures { λ r. ⌜ r ≡ lawful (bare m) (Leaves e o) ⌝ }
+{
+    if !raises(m, e, o) {
+        return false;
+    }
+    if e < m.e {
+        return false;
+    }
+    if o < m.o {
+        return false;
+    }
+    if TOP < e {
+        return false;
+    }
+    o <= TOP
+}
+
+fn step_leaves(m: Counts, e: u32, o: u32) -> Step
+    ensures { λ r. ⌜ r ≡ stepNote (bare m) (Leaves e o) ⌝ }
+{
+    if !leaves_lawful(m, e, o) {
+        return Step::Bad;
+    }
+    Step::On(Counts {
+        e,
+        o,
+        fills: m.fills,
+        orders: m.orders,
+        acked: m.acked,
+    })
+}
+
+// "K is above the mark and at most the last fill".
+fn step_marks(m: Counts, n: u32) -> Step
+    ensures { λ r. ⌜ r ≡ stepNote (bare m) (Marks n) ⌝ }
+{
+    if n <= m.acked {
+        return Step::Bad;
+    }
+    if m.fills < n {
+        return Step::Bad;
+    }
+    Step::On(Counts {
+        e: m.e,
+        o: m.o,
+        fills: m.fills,
+        orders: m.orders,
+        acked: n,
+    })
+}
+
+// "fresh: .. E = O = 1", and nothing booked.
+fn empty_counts() -> Counts
+    ensures { λ r. ⌜ r ≡ countsOf empty ⌝ }
+{
+    Counts {
+        e: 1,
+        o: 1,
+        fills: 0,
+        orders: 0,
+        acked: 0,
+    }
+}
+
+// "D with nothing waiting".
+fn step_clears(m: Counts) -> Step
+    ensures { λ r. ⌜ r ≡ stepNote (bare m) Clears ⌝ }
+{
+    if m.acked != m.fills {
+        return Step::Bad;
+    }
+    Step::On(empty_counts())
+}
+
+fn wide(n: u32) -> usize
+    ensures { λ r. ⌜ (r ≡ n) × (r ≤ 4294967295) ⌝ }
+{
+    n as usize
+}
+
+fn is_new(mem: &[u8; BOOK], fills: usize, slot: &[u8]) -> bool
+    ensures { λ r. ⌜ r ≡ isNew (place (slotsIn fills (now (mem .entry))) (now (slot .entry))) ⌝ }
+{
+    match book::place(mem, fills, slot) {
+        Placed::Clash(_) => false,
+        Placed::Already => false,
+        Placed::New => true,
+    }
+}
+
+// "a report that would be booked".
+fn is_bookable(mem: &[u8; BOOK], m: Counts, slot: &[u8]) -> bool
+    ensures { λ r. ⌜ r ≡ bookable (slotsIn (m .fills) (now (mem .entry))) (m .orders) (now (slot .entry)) ⌝ }
+{
+    let fills = wide(m.fills);
+    if !fill::is_lawful(slot) {
+        return false;
+    }
+    if !is_new(mem, fills, slot) {
+        return false;
+    }
+    book::has_room(mem, fills, m.orders, slot)
+}
+
+// "F has E one up within that, O the same, and a report that would be booked".
+fn books_lawful(mem: &[u8; BOOK], m: Counts, e: u32, o: u32, slot: &[u8]) -> bool
+    ensures { λ r. ⌜ r ≡ lawful (keptIn m (now (mem .entry))) (Books e o (now (slot .entry))) ⌝ }
+{
+    if e < 1 {
+        return false;
+    }
+    if e - 1 != m.e {
+        return false;
+    }
+    if TOP < e {
+        return false;
+    }
+    if o != m.o {
+        return false;
+    }
+    is_bookable(mem, m, slot)
+}
+
+// The slot is written after the last one.
+fn step_books(mem: &mut [u8; BOOK], m: Counts, e: u32, o: u32, slot: &[u8]) -> Step
+    ensures { λ r. ⌜ (r ≡ stepNote (keptIn m (now (mem .entry))) (Books e o (now (slot .entry)))) × (now (mem .exit) ≡ memNote (now (mem .entry)) (keptIn m (now (mem .entry))) (Books e o (now (slot .entry)))) ⌝ }
+{
+    if !books_lawful(mem, m, e, o, slot) {
+        return Step::Bad;
+    }
+    let fills = wide(m.fills);
+    let orders = book::orders_with(mem, fills, m.orders, slot);
+    book::append(mem, fills, slot);
+    Step::On(Counts {
+        e,
+        o,
+        fills: m.fills + 1,
+        orders,
+        acked: m.acked,
+    })
+}
+
+// What the first note of s does.
+fn take_note(mem: &mut [u8; BOOK], m: Counts, s: &[u8]) -> Step
+    ensures { λ r. ⌜ (r ≡ stepRead (keptIn m (now (mem .entry))) (readNote (now (s .entry)))) × (now (mem .exit) ≡ memRead (now (mem .entry)) (keptIn m (now (mem .entry))) (readNote (now (s .entry)))) ⌝ }
+{
+    match note::read_note(s) {
+        Read::Leaves(e, o) => step_leaves(m, e, o),
+        Read::Books(e, o) => step_books(mem, m, e, o, &note::slot_in_note(s)),
+        Read::Marks(n) => step_marks(m, n),
+        Read::Clears => step_clears(m),
+        Read::Part => Step::End,
+        Read::Unknown => Step::Bad,
+    }
+}
+
+// The notes one by one, their fills into mem.
+fn replay(mem: &mut [u8; BOOK], notes: &[u8]) -> Restarted
+    requires { ⌜ length (now mem) ≡ bookWidth ⌝ }
+    ensures { λ r. ⌜ (r ≡ told (restart (now (notes .entry)))) × HasSlots (now (mem .exit)) (restart (now (notes .entry))) × (length (now (mem .exit)) ≡ bookWidth) ⌝ }
+{
+    let mut m = empty_counts();
+    let mut at = 0;
+    while at < notes.len() {
+        let rest = &notes[at..];
+        match take_note(mem, m, rest) {
+            Step::On(next) => {
+                m = next;
+                at += note::note_size(rest);
+            }
+            Step::End => {
+                return Restarted::Again(m, at);
+            }
+            Step::Bad => {
+                return Restarted::Unlawful(at);
+            }
+        }
+    }
+    Restarted::Again(m, at)
+}
+
+// A restart into the lent book. The notes are replayed into an array of the call's own, and only the used slots are copied:
+// where a note is unlawful the book stays as it was, and a fill of a day before leaves no trace.
+pub fn restart(book: &mut [u8; BOOK], notes: &[u8]) -> Restarted
+    ensures { λ r. ⌜ (r ≡ told (restart (now (notes .entry)))) × (now (book .exit) ≡ bookAfter (now (book .entry)) (restart (now (notes .entry)))) ⌝ }
+{
+    let mut mem = [0u8; BOOK];
+    match replay(&mut mem, notes) {
+        Restarted::Again(counts, whole) => {
+            octet::copy_into(book, 0, octet::part(&mem, 0, wide(counts.fills) * SLOT));
+            Restarted::Again(counts, whole)
+        }
+        Restarted::Unlawful(at) => Restarted::Unlawful(at),
+    }
 }

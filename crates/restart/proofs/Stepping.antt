@@ -1,0 +1,319 @@
+-- Laws of one note as the code takes it: when a note is lawful, test by test; the counts and the memory after it are what is kept after it; and
+-- what the step says of the whole restart.
+use Prim.Native.Nat.{ℕ, zero, suc, _+_, _-_, _*_, _≤_, _<_, min}
+use mathlib.Core.Path.{_≡_, refl, sym, ap, ap₂, _∙_, subst}
+use mathlib.Core.Logic.{⊎-elim}
+use mathlib.Core.List.{List, [], _∷_, _++_}
+use mathlib.Core.Bool.{Bool, true, false, cond, _&&_, _||_}
+use native.Mathlib.Nat.{min-eq-left}
+use native.Mathlib.Omega.{arith}
+use borrow.Author.Tests.{ltb-true}
+use lib.ListN.{length, take, drop, length-append, length-drop}
+use lib.Seq.{take-add, drop-drop}
+use lib.Dec.{leb, ltb, eqb}
+use Rattle.octet.specs.Bytes.{part, joined}
+use Rattle.octet.specs.Splice.{splice}
+use Rattle.octet.proofs.Cases.{cond-true, cond-false, of-cond, or-cases, and-right, bool-case}
+use Rattle.octet.proofs.Lists.{drop-done}
+use Rattle.fill.specs.Slot.{Slot, slotLawful, slotWidth, mostFills, bookWidth}
+use Rattle.book.specs.Memory.{slotsIn, appended}
+use Rattle.book.specs.Place.{place, isNew, knownOrder, ordersWith, hasRoom, mostOrders}
+use Rattle.book.specs.Known.{largest}
+use Rattle.book.proofs.Slots.{slots-length, slots-append, appended-length}
+use Rattle.note.specs.Notes.{Note, Leaves, Books, Marks, Clears, Reading, Whole, Part, Unknown, readNote, taken}
+use Rattle.note.specs.Kept.{Kept, empty, bookable, top, lawful, after}
+use Rattle.note.proofs.Keeping.{Slotted, read-is, lawful-books, bookable-facts, room-fills}
+use Rattle.restart.specs.declared.Counts.{Counts}
+use Rattle.restart.specs.declared.Step.{Step}
+use Rattle.restart.specs.declared.Step.the-variants as step
+use Rattle.restart.specs.declared.Restarted.the-variants as restarted
+use Rattle.restart.specs.Restart.{Outcome, Again, Unlawful, restart, countsOf, told, bookAfter}
+use Rattle.restart.specs.Steps.{keptIn, bare, stepNote, stepRead, memNote, memRead, HasSlots}
+use Rattle.restart.proofs.Going.{go, restart-go, go-end, go-part, go-unknown, go-bad, go-on, some-taken, GivenIn}
+
+-- ---- lawful, test by test
+module _ (q : Kept) where
+  pub leaves-by : (e o : ℕ) {a b c d f : Bool} → ltb (q .e) e || ltb (q .o) o ≡ a → leb (q .e) e ≡ b → leb (q .o) o ≡ c → leb e top ≡ d → leb o top ≡ f
+      → a && b && c && d && f ≡ lawful q (Leaves e o)
+  unfolding lawful
+  leaves-by e o ea eb ec ed ef = cc
+
+  pub books-by : (e o : ℕ) (s : Slot) {a b c d : Bool} → eqb e (q .e + 1) ≡ a → leb e top ≡ b → eqb o (q .o) ≡ c → bookable (q .slots) (q .orders) s ≡ d
+      → a && b && c && d ≡ lawful q (Books e o s)
+  unfolding lawful
+  books-by e o s ea eb ec ed = cc
+
+  pub marks-by : (n : ℕ) {a b : Bool} → ltb (q .acked) n ≡ a → leb n (length (q .slots)) ≡ b → a && b ≡ lawful q (Marks n)
+  unfolding lawful
+  marks-by n ea eb = cc
+
+  pub clears-by : {a : Bool} → eqb (q .acked) (length (q .slots)) ≡ a → a ≡ lawful q Clears
+  unfolding lawful
+  clears-by ea = sym ea
+
+  pub step-no : (n : Note) → false ≡ lawful q n → step.Bad ≡ stepNote q n
+  unfolding stepNote
+  step-no n t = sym (cond-false (lawful q n) (step.On (countsOf (after q n))) step.Bad (sym t))
+
+  pub step-yes : (n : Note) (k : Counts) → true ≡ lawful q n → k ≡ countsOf (after q n) → step.On k ≡ stepNote q n
+  unfolding stepNote
+  step-yes n k t e = ap step.On e ∙ sym (cond-true (lawful q n) (step.On (countsOf (after q n))) step.Bad (sym t))
+
+pub bookable-by : (ss : List Slot) (orders : ℕ) (s : Slot) {a b c : Bool} → slotLawful s ≡ a → isNew (place ss s) ≡ b → hasRoom ss orders s ≡ c
+    → a && b && c ≡ bookable ss orders s
+unfolding bookable
+bookable-by ss orders s ea eb ec = cc
+
+-- ---- counts
+abbrev counts : ℕ → ℕ → ℕ → ℕ → ℕ → Counts
+counts e o fills orders acked = record { e = e; o = o; fills = fills; orders = orders; acked = acked }
+
+abbrev kept : ℕ → ℕ → List Slot → ℕ → ℕ → Kept
+kept e o slots orders acked = record { e = e; o = o; slots = slots; orders = orders; acked = acked }
+
+module _ (m : Counts) (mem : List ℕ) where
+  pub fills-is : length (keptIn m mem .slots) ≡ m .fills
+  fills-is = slots-length (m .fills) mem
+
+  pub counts-kept : countsOf (keptIn m mem) ≡ m
+  counts-kept = ap (λ (n : ℕ). counts (m .e) (m .o) n (m .orders) (m .acked)) fills-is
+
+  pub on-leaves : (e o : ℕ) → counts e o (m .fills) (m .orders) (m .acked) ≡ countsOf (after (keptIn m mem) (Leaves e o))
+  unfolding after
+  on-leaves e o = ap (λ (n : ℕ). counts e o n (m .orders) (m .acked)) (sym fills-is)
+
+  pub on-marks : (k : ℕ) → counts (m .e) (m .o) (m .fills) (m .orders) k ≡ countsOf (after (keptIn m mem) (Marks k))
+  unfolding after
+  on-marks k = ap (λ (n : ℕ). counts (m .e) (m .o) n (m .orders) k) (sym fills-is)
+
+  pub on-clears : countsOf empty ≡ countsOf (after (keptIn m mem) Clears)
+  unfolding after
+  on-clears = refl
+
+  pub on-books : (e o orders : ℕ) (s : Slot) → orders ≡ ordersWith (slotsIn (m .fills) mem) (m .orders) s
+      → counts e o (m .fills + 1) orders (m .acked) ≡ countsOf (after (keptIn m mem) (Books e o s))
+  unfolding after
+  on-books e o orders s h =
+      let l : m .fills + 1 ≡ length (slotsIn (m .fills) mem ++ (s ∷ [])) = omega (arith, fills-is, length-append (slotsIn (m .fills) mem) (s ∷ [])) in
+      ap₂ (λ (n x : ℕ). counts e o n x (m .acked)) l h
+
+  -- the steps of S, K and D go by the counts alone
+  pub any-leaves : (e o : ℕ) → stepNote (bare m) (Leaves e o) ≡ stepNote (keptIn m mem) (Leaves e o)
+  unfolding stepNote lawful after
+  any-leaves e o =
+      ap (λ (n : ℕ). cond (lawful (bare m) (Leaves e o)) (step.On (counts e o n (m .orders) (m .acked))) step.Bad) (slots-length (m .fills) [] ∙ sym fills-is)
+
+  pub any-marks : (k : ℕ) → stepNote (bare m) (Marks k) ≡ stepNote (keptIn m mem) (Marks k)
+  unfolding stepNote lawful after
+  any-marks k =
+      ap (λ (n : ℕ). cond (ltb (m .acked) k && leb k n) (step.On (counts (m .e) (m .o) n (m .orders) k)) step.Bad) (slots-length (m .fills) [] ∙ sym fills-is)
+
+  pub any-clears : stepNote (bare m) Clears ≡ stepNote (keptIn m mem) Clears
+  unfolding stepNote lawful after
+  any-clears =
+      ap (λ (n : ℕ). cond (eqb (m .acked) n) (step.On (countsOf empty)) step.Bad) (slots-length (m .fills) [] ∙ sym fills-is)
+
+-- ---- the counts and the memory after a lawful note are what is kept after it
+pub kept-after : (m : Counts) (mem : List ℕ) (note : Note) → length mem ≡ bookWidth → Slotted note → lawful (keptIn m mem) note ≡ true
+    → keptIn (countsOf (after (keptIn m mem) note)) (memNote mem (keptIn m mem) note) ≡ after (keptIn m mem) note
+unfolding after memNote slotsIn
+kept-after m mem (Leaves e o) l w t = ap (λ (n : ℕ). kept e o (slotsIn n mem) (m .orders) (m .acked)) (fills-is m mem)
+kept-after m mem (Books e o s) l w t =
+    let q = keptIn m mem in
+    let ss = slotsIn (m .fills) mem in
+    let room : length ss < mostFills = room-fills ss (m .orders) s (bookable-facts ss (m .orders) s (lawful-books q e o s t .3) .2) in
+    let f : length ss ≡ m .fills = fills-is m mem in
+    let n : length (ss ++ (s ∷ [])) ≡ m .fills + 1 = omega (arith, length-append ss (s ∷ [])) in
+    let mem′ : cond (lawful q (Books e o s)) (appended mem (length ss) s) mem ≡ appended mem (m .fills) s =
+    cond-true (lawful q (Books e o s)) (appended mem (length ss) s) mem t ∙ ap (λ (k : ℕ). appended mem k s) f in
+    ap (λ (x : List Slot). kept e o x (ordersWith ss (m .orders) s) (m .acked))
+    (ap₂ slotsIn n mem′ ∙ slots-append mem (m .fills) s (omega arith) (w .wide) l)
+kept-after m mem (Marks k) l w t = ap (λ (n : ℕ). kept (m .e) (m .o) (slotsIn n mem) (m .orders) k) (fills-is m mem)
+kept-after m mem Clears l w t = refl
+
+-- ---- what a step says of the whole restart
+never : {A : Type 0} → _≡_ {A = ℕ} 0 1 → A
+never z = absurd (omega arith)
+
+module _ (m : Counts) (mem s : List ℕ) (at : ℕ) where
+  abbrev q : Kept
+  q = keptIn m mem
+
+  on-by : (next : Counts) (r : Reading) → length mem ≡ bookWidth → readNote s ≡ r → step.On next ≡ stepRead q r
+      → (go q at s ≡ go (keptIn next (memRead mem q r)) (at + taken r) (drop (taken r) s)) × (taken r ≤ length s) × (0 < taken r)
+  unfolding stepNote
+  on-by next Part l e t = never cc
+  on-by next Unknown l e t = never cc
+  on-by next (Whole note n) l e t =
+      let w = read-is s note n e in
+      ⊎-elim
+      (λ h. (let k : next ≡ countsOf (after q note) = cc (cond-true (lawful q note) (step.On (countsOf (after q note))) step.Bad h) in (
+        go-on q at s note n e h
+            ∙ ap (λ (x : Kept). go x (at + n) (drop n s)) (sym (kept-after m mem note l (w .slotted) h) ∙ ap (λ (x : Counts). keptIn x (memNote mem q note)) (sym k)),
+        w .there,
+        some-taken s note n e,
+      )))
+      (λ h. never (cc (cond-false (lawful q note) (step.On (countsOf (after q note))) step.Bad h)))
+      (bool-case (lawful q note))
+
+  pub on-goes : (next : Counts) → length mem ≡ bookWidth → step.On next ≡ stepRead q (readNote s)
+      → (go q at s ≡ go (keptIn next (memRead mem q (readNote s))) (at + taken (readNote s)) (drop (taken (readNote s)) s)) × (taken (readNote s) ≤ length s) × (0 < taken (readNote s))
+  on-goes next l t = on-by next (readNote s) l refl t
+
+  end-by : (r : Reading) → readNote s ≡ r → step.End ≡ stepRead q r → (go q at s ≡ Again q at) × (memRead mem q r ≡ mem)
+  unfolding stepNote
+  end-by Part e t = (go-part q at s e, refl)
+  end-by Unknown e t = never cc
+  end-by (Whole note n) e t =
+      ⊎-elim
+      (λ h. never (cc (cond-true (lawful q note) (step.On (countsOf (after q note))) step.Bad h)))
+      (λ h. never (cc (cond-false (lawful q note) (step.On (countsOf (after q note))) step.Bad h)))
+      (bool-case (lawful q note))
+
+  pub end-goes : step.End ≡ stepRead q (readNote s) → (go q at s ≡ Again q at) × (memRead mem q (readNote s) ≡ mem)
+  end-goes t = end-by (readNote s) refl t
+
+  bad-by : (r : Reading) → readNote s ≡ r → step.Bad ≡ stepRead q r → go q at s ≡ Unlawful at
+  unfolding stepNote
+  bad-by Part e t = never cc
+  bad-by Unknown e t = go-unknown q at s e
+  bad-by (Whole note n) e t =
+      ⊎-elim
+      (λ h. never (cc (cond-true (lawful q note) (step.On (countsOf (after q note))) step.Bad h)))
+      (λ h. go-bad q at s note n e h)
+      (bool-case (lawful q note))
+
+  pub bad-goes : step.Bad ≡ stepRead q (readNote s) → go q at s ≡ Unlawful at
+  bad-goes t = bad-by (readNote s) refl t
+
+-- ---- the end of a replay
+pub replay-ends : (o : Outcome) (m : Counts) (mem mem′ : List ℕ) (at : ℕ) → o ≡ Again (keptIn m mem) at → mem′ ≡ mem
+    → (restarted.Again m at ≡ told o) × HasSlots mem′ o
+replay-ends o m mem mem′ at e f =
+    let w : slotsIn (length (slotsIn (m .fills) mem)) mem′ ≡ slotsIn (m .fills) mem = ap₂ slotsIn (fills-is m mem) f in
+    (ap (λ (k : Counts). restarted.Again k at) (sym (counts-kept m mem)) ∙ sym (ap told e), subst (HasSlots mem′) (sym e) w)
+
+pub replay-bad : (o : Outcome) (mem′ : List ℕ) (at : ℕ) → o ≡ Unlawful at → (restarted.Unlawful at ≡ told o) × HasSlots mem′ o
+replay-bad o mem′ at e = (sym (ap told e), subst (HasSlots mem′) (sym e) tt)
+
+pub start : (notes mem : List ℕ) (m : Counts) → m ≡ countsOf empty → restart notes ≡ go (keptIn m mem) 0 notes
+unfolding slotsIn
+start notes mem m e = restart-go notes ∙ ap (λ (k : Counts). go (keptIn k mem) 0 notes) (sym e)
+
+-- ---- a turn of the replay, at place `at` of the notes l, of which s is the rest, with o the answer
+module _ (l s : List ℕ) (o : Outcome) (m : Counts) (mem mem′ : List ℕ) (at : ℕ) where
+  pub turn-on : {next : Counts} {n : ℕ} → s ≡ drop at l → o ≡ go (keptIn m mem) at (drop at l) → length mem ≡ bookWidth → at ≤ length l
+      → step.On next ≡ stepRead (keptIn m mem) (readNote s) → mem′ ≡ memRead mem (keptIn m mem) (readNote s) → n ≡ taken (readNote s)
+      → (o ≡ go (keptIn next mem′) (at + n) (drop (at + n) l)) × (at + n ≤ length l) × (0 < n)
+  turn-on {next} {n} es eo el h t em en =
+      let g = on-goes m mem s at next el t in
+      let fits : n ≤ length s = rw (← en) at (g .1) in
+      let ls : length s ≡ length l - at = ap length es ∙ length-drop at l in (
+        eo ∙ ap (go (keptIn m mem) at) (sym es) ∙ g .0
+            ∙ ap₂ (λ (x : List ℕ) (k : ℕ). go (keptIn next x) (at + k) (drop k s)) (sym em) (sym en)
+            ∙ ap (go (keptIn next mem′) (at + n)) (ap (drop n) es ∙ drop-drop n at l),
+        omega arith,
+        rw (← en) at (g .2),
+      )
+
+  pub turn-end : s ≡ drop at l → o ≡ go (keptIn m mem) at (drop at l) → step.End ≡ stepRead (keptIn m mem) (readNote s) → mem′ ≡ memRead mem (keptIn m mem) (readNote s)
+      → (restarted.Again m at ≡ told o) × HasSlots mem′ o
+  turn-end es eo t em =
+      let g = end-goes m mem s at t in
+      replay-ends o m mem mem′ at (eo ∙ ap (go (keptIn m mem) at) (sym es) ∙ g .0) (em ∙ g .1)
+
+  pub turn-bad : s ≡ drop at l → o ≡ go (keptIn m mem) at (drop at l) → step.Bad ≡ stepRead (keptIn m mem) (readNote s)
+      → (restarted.Unlawful at ≡ told o) × HasSlots mem′ o
+  turn-bad es eo t = replay-bad o mem′ at (eo ∙ ap (go (keptIn m mem) at) (sym es) ∙ bad-goes m mem s at t)
+
+pub turns-done : (l : List ℕ) (o : Outcome) (m : Counts) (mem : List ℕ) (at : ℕ) → o ≡ go (keptIn m mem) at (drop at l) → length l ≤ at
+    → (restarted.Again m at ≡ told o) × HasSlots mem o
+turns-done l o m mem at eo h =
+    replay-ends o m mem mem at (eo ∙ ap (go (keptIn m mem) at) (drop-done l at h) ∙ go-end (keptIn m mem) at) refl
+
+-- the memory keeps its length
+pub mem-length : (mem : List ℕ) (q : Kept) (r : Reading) → length (memRead mem q r) ≡ length mem
+unfolding memNote
+mem-length mem q Part = refl
+mem-length mem q Unknown = refl
+mem-length mem q (Whole (Leaves e o) n) = refl
+mem-length mem q (Whole (Books e o s) n) =
+    of-cond (λ (l : List ℕ). length l ≡ length mem) (lawful q (Books e o s)) (λ t. appended-length mem (length (q .slots)) s) (λ t. refl)
+mem-length mem q (Whole (Marks k) n) = refl
+mem-length mem q (Whole Clears n) = refl
+
+-- ---- the step of a note that is read
+pub take-whole : {n : Note} {k : ℕ} {r : Step} {mem′ : List ℕ} (q : Kept) (mem s : List ℕ) → readNote s ≡ Whole n k → r ≡ stepNote q n → mem′ ≡ memNote mem q n
+    → (r ≡ stepRead q (readNote s)) × (mem′ ≡ memRead mem q (readNote s))
+take-whole q mem s e er em = (er ∙ sym (ap (stepRead q) e), em ∙ sym (ap (memRead mem q) e))
+
+pub take-books : {e o k : ℕ} {x y : Slot} {r : Step} {mem′ : List ℕ} (q : Kept) (mem s : List ℕ) → x ≡ y → readNote s ≡ Whole (Books e o y) k → r ≡ stepNote q (Books e o x)
+    → mem′ ≡ memNote mem q (Books e o x) → (r ≡ stepRead q (readNote s)) × (mem′ ≡ memRead mem q (readNote s))
+take-books {e} {o} q mem s ex er es em =
+    take-whole q mem s er (es ∙ ap (λ (z : Slot). stepNote q (Books e o z)) ex) (em ∙ ap (λ (z : Slot). memNote mem q (Books e o z)) ex)
+
+pub mem-leaves : (mem : List ℕ) (q : Kept) (e o : ℕ) → mem ≡ memNote mem q (Leaves e o)
+unfolding memNote
+mem-leaves mem q e o = refl
+
+pub mem-marks : (mem : List ℕ) (q : Kept) (n : ℕ) → mem ≡ memNote mem q (Marks n)
+unfolding memNote
+mem-marks mem q n = refl
+
+pub mem-clears : (mem : List ℕ) (q : Kept) → mem ≡ memNote mem q Clears
+unfolding memNote
+mem-clears mem q = refl
+
+pub mem-no : (mem : List ℕ) (q : Kept) (e o : ℕ) (s : Slot) → false ≡ lawful q (Books e o s) → mem ≡ memNote mem q (Books e o s)
+unfolding memNote
+mem-no mem q e o s t = sym (cond-false (lawful q (Books e o s)) (appended mem (length (q .slots)) s) mem (sym t))
+
+module _ (m : Counts) (mem : List ℕ) (e o : ℕ) (s : Slot) (t : true ≡ lawful (keptIn m mem) (Books e o s)) where
+  pub mem-yes : (mem′ : List ℕ) → mem′ ≡ appended mem (m .fills) s → mem′ ≡ memNote mem (keptIn m mem) (Books e o s)
+  unfolding memNote
+  mem-yes mem′ h =
+      h ∙ ap (λ (k : ℕ). appended mem k s) (sym (fills-is m mem))
+      ∙ sym (cond-true (lawful (keptIn m mem) (Books e o s)) (appended mem (length (slotsIn (m .fills) mem)) s) mem (sym t))
+
+  room : hasRoom (slotsIn (m .fills) mem) (m .orders) s ≡ true
+  room = bookable-facts (slotsIn (m .fills) mem) (m .orders) s (lawful-books (keptIn m mem) e o s (sym t) .3) .2
+
+  -- the counts stay in their range
+  pub fills-few : m .fills < mostFills
+  fills-few = omega (arith, fills-is m mem, room-fills (slotsIn (m .fills) mem) (m .orders) s room)
+
+  pub orders-fit : m .orders ≤ largest → min (ordersWith (slotsIn (m .fills) mem) (m .orders) s) largest ≡ ordersWith (slotsIn (m .fills) mem) (m .orders) s
+  unfolding hasRoom ordersWith
+  orders-fit h =
+      let ss = slotsIn (m .fills) mem in
+      let r = and-right (ltb (length ss) mostFills) (knownOrder ss s || ltb (m .orders) mostOrders) room in
+      min-eq-left
+      (⊎-elim
+      (λ k. subst (λ (x : ℕ). x ≤ largest) (sym (cond-true (knownOrder ss s) (m .orders) (m .orders + 1) k)) h)
+      (λ k. (let b = ltb-true (m .orders) mostOrders k in
+      of-cond (λ (x : ℕ). x ≤ largest) (knownOrder ss s) (λ f. h) (λ f. omega arith)))
+      (or-cases (knownOrder ss s) (ltb (m .orders) mostOrders) r))
+
+-- ---- the used slots of a memory are its front
+joined-slots : (n : ℕ) (mem : List ℕ) → n * slotWidth ≤ length mem → joined (slotsIn n mem) ≡ take (n * slotWidth) mem
+unfolding slotsIn
+joined-slots zero mem h = refl
+joined-slots (suc n) mem h =
+    let k : slotWidth + n * slotWidth ≡ suc n * slotWidth = omega arith in
+    ap (λ (l : List ℕ). take slotWidth mem ++ l) (joined-slots n (drop slotWidth mem) (omega (arith, length-drop slotWidth mem)))
+    ∙ sym (take-add slotWidth (n * slotWidth) mem)
+    ∙ ap (λ (j : ℕ). take j mem) k
+
+-- only they are written
+pub book-is : (o : Outcome) (book mem : List ℕ) (k : Counts) (whole most : ℕ) → restarted.Again k whole ≡ told o → HasSlots mem o → GivenIn most o → length mem ≡ bookWidth
+    → splice book 0 (part 0 (k .fills * slotWidth) mem) ≡ bookAfter book o
+book-is (Again q w) book mem k whole most e h g l =
+    let f : k ≡ countsOf q = cc in
+    let few = g .sound .few in
+    ap (splice book 0)
+    (ap (λ (x : Counts). take (x .fills * slotWidth) mem) f ∙ sym (joined-slots (length (q .slots)) mem (omega arith)) ∙ ap joined h)
+book-is (Unlawful at) book mem k whole most e h g l = never cc
+
+pub book-stays : (o : Outcome) (book : List ℕ) (at : ℕ) → restarted.Unlawful at ≡ told o → book ≡ bookAfter book o
+book-stays (Again q w) book at e = never cc
+book-stays (Unlawful p) book at e = refl

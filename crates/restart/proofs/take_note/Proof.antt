@@ -1,0 +1,89 @@
+-- `restart::take_note` meets its contract, class by class.
+use borrow.Author.Needs.{needs}
+use mathlib.Core.Path.{sym, ap, _∙_}
+use Prim.Native.Nat.{_-_}
+use denote.Ref.{now}
+use Rattle.note.proofs.Asking.{untold, was-read}
+use Rattle.restart.specs.Restart.{restart}
+use Rattle.restart.specs.Steps.{keptIn, stepRead, memRead}
+use Rattle.restart.proofs.Stepping.{any-leaves, any-marks, any-clears, take-whole, take-books, mem-leaves, mem-marks, mem-clears}
+use Rattle.restart.proofs.take_note.Statement.{statement}
+use Rattle.restart.proofs.take_note.Tie as tie
+
+returns : tie.Need-returns
+returns c =
+    let a = c .before .before .before .before .before .before .args in
+    let m = now (a .mem) in
+    let s = now (a .s) in
+    let q = keptIn (a .m) m in
+    let r = was-read s _ (c .before .before .before .before .read-note .ensures) ∙ ap (untold s) (c .before .before .e .given .1) in
+    take-whole q m s r (c .step-leaves .ensures ∙ any-leaves (a .m) m _ _) (mem-leaves m q _ _)
+
+returns-2 : tie.Need-returns-2
+returns-2 c =
+    let a = c .before .before .before .before .before .before .before .before .before .args in
+    let m = now (a .mem) in
+    let s = now (a .s) in
+    let q = keptIn (a .m) m in
+    let r = was-read s _ (c .before .before .before .before .before .before .before .read-note .ensures) ∙ ap (untold s) (c .before .before .before .before .before .e2 .given .1) in
+    take-books q m s (c .before .before .slot-in-note .ensures) r (c .step-books .ensures .0) (c .step-books .ensures .1)
+
+returns-3 : tie.Need-returns-3
+returns-3 c =
+    let a = c .before .before .before .before .before .before .args in
+    let m = now (a .mem) in
+    let s = now (a .s) in
+    let q = keptIn (a .m) m in
+    let r = was-read s _ (c .before .before .before .before .read-note .ensures) ∙ ap (untold s) (c .before .before .n .given .1) in
+    take-whole q m s r (c .step-marks .ensures ∙ any-marks (a .m) m _) (mem-marks m q _)
+
+returns-4 : tie.Need-returns-4
+returns-4 c =
+    let a = c .before .before .before .before .before .args in
+    let m = now (a .mem) in
+    let s = now (a .s) in
+    let q = keptIn (a .m) m in
+    let r = was-read s _ (c .before .before .before .read-note .ensures) ∙ ap (untold s) (c .before .enum-told .given .1) in
+    take-whole q m s r (c .step-clears .ensures ∙ any-clears (a .m) m) (mem-clears m q)
+
+returns-5 : tie.Need-returns-5
+returns-5 c =
+    let a = c .before .before .before .before .args in
+    let m = now (a .mem) in
+    let s = now (a .s) in
+    let q = keptIn (a .m) m in
+    let r = was-read s _ (c .before .before .read-note .ensures) ∙ ap (untold s) (c .enum-told2 .given .1) in
+    (sym (ap (stepRead q) r), sym (ap (memRead m q) r))
+
+returns-6 : tie.Need-returns-6
+returns-6 c =
+    let a = c .before .before .before .before .args in
+    let m = now (a .mem) in
+    let s = now (a .s) in
+    let q = keptIn (a .m) m in
+    let r = was-read s _ (c .before .before .read-note .ensures) ∙ ap (untold s) (c .enum-told3 .given .1) in
+    (sym (ap (stepRead q) r), sym (ap (memRead m q) r))
+
+pub take-note-spec : {M : Type 1} → statement M
+take-note-spec =
+    tie.close
+    (tie.spec
+    (λ c κs. search needs)
+    (λ c. search needs)
+    (λ c κs. search needs)
+    (λ c. search needs)
+    (λ c κs. search needs)
+    (λ c. search needs)
+    (λ c κs. search needs)
+    (λ c. search needs)
+    (λ c κs. search needs)
+    (λ c. search needs)
+    (λ c κs. search needs)
+    (λ c. search needs)
+    (λ c. search needs)
+    returns
+    returns-2
+    returns-3
+    returns-4
+    returns-5
+    returns-6)

@@ -1,0 +1,51 @@
+-- One note, as a restart takes it: the counts by value and the slots in memory, and what each is after the note.
+use Prim.Native.Nat.{ℕ}
+use mathlib.Core.List.{List, []}
+use mathlib.Core.Bool.{Bool, cond, _||_}
+use mathlib.Core.Path.{_≡_}
+use lib.ListN.{length}
+use lib.Dec.{ltb}
+use Rattle.book.specs.Memory.{slotsIn, appended}
+use Rattle.note.specs.Notes.{Note, Leaves, Books, Marks, Clears, Reading, Whole, Part, Unknown}
+use Rattle.note.specs.Kept.{Kept, lawful, after}
+use Rattle.restart.specs.Restart.{Outcome, Again, Unlawful, countsOf}
+use Rattle.restart.specs.declared.Counts.{Counts}
+use Rattle.restart.specs.declared.Step.{Step}
+use Rattle.restart.specs.declared.Step.the-variants as step
+
+-- what is kept, from the counts and the memory that has the slots
+abbrev pub keptIn : Counts → List ℕ → Kept
+keptIn m mem = record { e = m .e; o = m .o; slots = slotsIn (m .fills) mem; orders = m .orders; acked = m .acked }
+
+-- S, K and D are judged by the counts alone: any memory does
+abbrev pub bare : Counts → Kept
+bare m = keptIn m []
+
+-- "S raises E or O"
+abbrev pub raised : Counts → ℕ → ℕ → Bool
+raised m e o = ltb (m .e) e || ltb (m .o) o
+
+unfoldable pub stepNote : Kept → Note → Step
+stepNote q note = cond (lawful q note) (step.On (countsOf (after q note))) step.Bad
+
+abbrev pub stepRead : Kept → Reading → Step
+stepRead q (Whole note n) = stepNote q note
+stepRead q Part = step.End
+stepRead q Unknown = step.Bad
+
+-- the memory after it: one slot more where a fill is booked
+unfoldable pub memNote : List ℕ → Kept → Note → List ℕ
+memNote mem q (Leaves e o) = mem
+memNote mem q (Books e o s) = cond (lawful q (Books e o s)) (appended mem (length (q .slots)) s) mem
+memNote mem q (Marks n) = mem
+memNote mem q Clears = mem
+
+abbrev pub memRead : List ℕ → Kept → Reading → List ℕ
+memRead mem q (Whole note n) = memNote mem q note
+memRead mem q Part = mem
+memRead mem q Unknown = mem
+
+-- a memory has the slots of what a restart gives
+abbrev pub HasSlots : List ℕ → Outcome → Type 0
+HasSlots mem (Again q whole) = slotsIn (length (q .slots)) mem ≡ q .slots
+HasSlots mem (Unlawful at) = Unit
