@@ -1,39 +1,39 @@
--- A message with no fault, by steps 5 to 7: its scan is sound, its type is listed, and each row of its table is kept. What each form then says of the value, and
--- all of it for a report, a Test Request, a Resend Request and a Sequence Reset.
+-- A message with no fault, by steps 5 to 7: its scan is sound, its type is listed, and each row of its table is kept; and what each form then says of the value.
+--     faultless, no-fault     from no fault to each part of the judging, and back
+--     kept, kept-or, kept-passes, absent-passes     one row
+--     counted, written, none-or-from, sized, named, priced, timed, coded     one form
 use mathlib.Core.Path.{_≡_, refl, sym, ap, _∙_, subst}
 use mathlib.Core.Logic.{_⊎_, inl, inr, ⊎-elim}
-use mathlib.Core.Bool.{Bool, true, false, cond, _&&_, _||_}
+use mathlib.Core.Bool.{Bool, true, false, cond, _||_}
 use mathlib.Core.List.{List, [], _∷_, _++_}
 use mathlib.Core.Option.{Option, none, some}
 use Prim.Native.Nat.{ℕ, zero, suc, _+_, _-_, _≤_, _<_}
 use native.Mathlib.Omega.{arith}
 use lib.ListN.{length, getD, length-append, List·getD-append}
 use lib.Seq.{getD-append-add}
-use lib.Dec.{leb, eqb, lit≤}
-use borrow.Author.Tests.{eqb-true, leb-true, eq-eqb}
-use Rattle.octet.specs.Bytes.{allIn, runIn, between}
+use lib.Dec.{leb, eqb}
+use borrow.Author.Tests.{eqb-true, leb-true}
+use Rattle.octet.specs.Bytes.{allIn}
 use Rattle.octet.specs.Maybe.{orElse, first, unless, isNone}
 use Rattle.octet.proofs.Cases.{true-not-false, and-both, and-make, or-cases}
-use Rattle.octet.proofs.Lists.{between-low, between-high, run-is-all}
-use Rattle.value.specs.Value.{badNumber, badPrice, badTime, badGraph, timeFits, isTime, isOneOf, numberOr}
+use Rattle.octet.proofs.Lists.{between-low, between-high}
+use Rattle.value.specs.Value.{badNumber, badPrice, timeFits, isTime, numberOr}
 use Rattle.value.specs.Readers.{checked}
-use Rattle.value.proofs.Forms.{form-good}
-use Rattle.value.specs.declared.Check.the-variants.{Good, BadForm, OutOfRange}
+use Rattle.value.proofs.Texts.{graph-only}
 use Rattle.field.specs.Pieces.{Pieces, valuesOf, textAt, scanOf}
 use Rattle.field.specs.declared.Scan.{Scan}
 use Rattle.field.specs.declared.Scan.the-variants.{Sound, Malformed, Empty}
 use Rattle.answer.specs.Numbers.{inside, fault}
 use Rattle.answer.specs.declared.Setup.{Setup}
 use Rattle.answer.specs.declared.Phase.{Phase}
-use Rattle.answer.specs.declared.Fault.{Fault}
 use Rattle.answer.specs.declared.Kind.{Kind}
 use Rattle.answer.specs.declared.Kind.the-variants as kind
 use Rattle.table.specs.declared.Form.the-variants.{Number, Price, Time, Text, Graph, OneOf}
 use Rattle.table.specs.declared.Range.{Range}
-use Rattle.table.specs.declared.Range.the-variants.{Of, Written, NoneOrFrom, Any}
+use Rattle.table.specs.declared.Range.the-variants.{Of, Written, NoneOrFrom}
 use Rattle.table.specs.declared.Row.{Row}
-use Rattle.table.specs.Rows.{needs, headerRows, reportRows, rowsOf, tableOf, kindIn, noRow}
-use Rattle.table.specs.Steps.{Look, atPieces, numberAt, badForm, inRange, fits, valueCheck, checkFault, rowFault, walk, scanFault, kindFault, firstFault, faultIn}
+use Rattle.table.specs.Rows.{needs, headerRows, rowsOf, kindIn, noRow}
+use Rattle.table.specs.Steps.{atPieces, numberAt, badForm, inRange, fits, checkFault, rowFault, walk, scanFault, kindFault, firstFault, faultIn}
 use Rattle.table.proofs.Types.{only}
 
 -- ---- no fault in any part
@@ -211,11 +211,11 @@ module _ (o : ℕ) (ps : Pieces) (tag : ℕ) where
       record { from = between-low least most (length (textAt tag ps)) (k .ranged); to = between-high least most (length (textAt tag ps)) (k .ranged) }
 
   pub named : (least most : ℕ) → Kept o ps (needs tag Graph (Of least most)) → Named least most (textAt tag ps)
-  unfolding badForm badGraph fits inRange
+  unfolding badForm fits inRange
   named least most k =
       let v = textAt tag ps in
       record {
-        bytes = sym (run-is-all 33 126 v) ∙ eq-eqb (runIn 33 126 v) (length v) (form-good v (runIn 33 126 v) true (k .formed) .0);
+        bytes = graph-only v (k .formed);
         from = between-low least most (length v) (k .ranged);
         to = between-high least most (length v) (k .ranged);
       }

@@ -1,30 +1,25 @@
 -- By its own index a body is judged as by its pieces.
-use mathlib.Core.Path.{_≡_, refl, sym, ap, _∙_}
+use mathlib.Core.Path.{_≡_, refl, ap, _∙_}
 use mathlib.Core.List.{List, [], _∷_}
 use mathlib.Core.Bool.{Bool, _||_}
-use mathlib.Core.Option.{Option}
 use Prim.Native.Nat.{ℕ, suc, min}
 use native.Mathlib.Omega.{arith}
 use lib.ListN.{length, replicate}
 use lib.Dec.{leb, eqb}
-use Rattle.octet.specs.Maybe.{orElse, first, unless}
+use Rattle.octet.specs.Maybe.{first, unless}
 use Rattle.value.specs.Value.{numberOr}
 use Rattle.value.specs.Readers.{checked}
-use Rattle.field.specs.Pieces.{Pieces, piecesOf, valuesOf, textAt, scanOf}
-use Rattle.field.specs.Index.{indexOf, valueIn, countIn}
-use Rattle.field.specs.declared.Index.{Index}
-use Rattle.field.specs.declared.Scan.{Scan}
+use Rattle.field.specs.Pieces.{Pieces, piecesOf, valuesOf}
+use Rattle.field.specs.Index.{indexOf, valueIn}
 use Rattle.field.proofs.IndexLaws.{value-law, count-law, scan-law}
 use Rattle.answer.specs.declared.Setup.{Setup}
 use Rattle.answer.specs.declared.Phase.{Phase}
-use Rattle.answer.specs.declared.Fault.{Fault}
-use Rattle.answer.specs.declared.Kind.{Kind}
 use Rattle.table.specs.declared.Form.{Form}
 use Rattle.table.specs.declared.Form.the-variants.{Number, Price, Time, Text, Graph, OneOf}
 use Rattle.table.specs.declared.Range.{Range}
 use Rattle.table.specs.declared.Range.the-variants.{Of, Written, NoneOrFrom, Any}
 use Rattle.table.specs.declared.Row.{Row}
-use Rattle.table.specs.Rows.{tableOf, kindOf}
+use Rattle.table.specs.Rows.{tableOf, kindOf, kindIn}
 use Rattle.table.specs.Steps.{Look, atPieces, numberAt, badForm, inRange, fits, checkFault, rowFault, rowFaultAt, walk, firstFault, faultIn}
 use Rattle.table.specs.Indexed.{numberIn, atIndex, faultBy}
 
@@ -69,6 +64,9 @@ module _ (body : List ℕ) where
   pub number-law : (tag : ℕ) → numberIn body (indexOf body .start) (indexOf body .len) tag ≡ numberAt tag (piecesOf body)
   number-law tag = ap numberOr (value-law body tag)
 
+  pub kind-law : (setup : Setup) → kindOf setup (valueIn body (indexOf body .start) (indexOf body .len) 35) ≡ kindIn setup (piecesOf body)
+  kind-law setup = ap (kindOf setup) (value-law body 35)
+
   module _ (o : ℕ) where
     row-law : (row : Row) → rowFaultAt o own row ≡ rowFaultAt o (atPieces (piecesOf body)) row
     row-law row =
@@ -86,4 +84,4 @@ module _ (body : List ℕ) where
 
     pub fault-law : (setup : Setup) (phase : Phase) → faultBy setup phase o body (indexOf body) ≡ faultIn setup phase o (piecesOf body)
     unfolding faultBy faultIn firstFault
-    fault-law setup phase = rw (scan-law body, value-law body 35, walk-law (tableOf setup (kindOf setup (textAt 35 (piecesOf body)))))
+    fault-law setup phase = rw (scan-law body, kind-law setup, walk-law (tableOf setup (kindIn setup (piecesOf body))))

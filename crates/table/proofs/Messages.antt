@@ -1,5 +1,5 @@
 -- What the values of a faultless message are, by its type: a report, a Test Request, a Resend Request, a Sequence Reset, and the time of each.
-use mathlib.Core.Path.{_≡_, refl, sym, ap, _∙_, subst}
+use mathlib.Core.Path.{_≡_, refl, ap, subst}
 use mathlib.Core.Logic.{_⊎_, inl, inr, ⊎-elim}
 use mathlib.Core.List.{List, [], _∷_}
 use mathlib.Core.Bool.{true}
@@ -8,7 +8,7 @@ use Prim.Native.Nat.{ℕ, _-_, _≤_, _<_}
 use lib.ListN.{length, getD}
 use lib.Dec.{lit≤}
 use Rattle.value.specs.Value.{badNumber, badPrice, isTime, numberOr}
-use Rattle.field.specs.Pieces.{Pieces, valuesOf, textAt, scanOf}
+use Rattle.field.specs.Pieces.{Pieces, valuesOf, textAt}
 use Rattle.answer.specs.declared.Setup.{Setup}
 use Rattle.answer.specs.declared.Phase.{Phase}
 use Rattle.answer.specs.declared.Kind.{Kind}
@@ -18,9 +18,7 @@ use Rattle.table.specs.Rows.{rowsOf, kindIn, noRow}
 use Rattle.table.specs.Steps.{numberAt, faultIn}
 use Rattle.table.proofs.Faultless.{
   Passes,
-  Faultless,
   faultless,
-  Kept,
   kept,
   Counted,
   counted,

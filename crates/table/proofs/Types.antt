@@ -1,8 +1,8 @@
 -- The kind of a type's bytes: UCC, one byte, and any others.
-use mathlib.Core.Path.{_≡_, refl, sym, ap, _∙_}
+use mathlib.Core.Path.{_≡_, refl, sym, ap}
 use mathlib.Core.List.{List, [], _∷_}
-use mathlib.Core.Bool.{Bool, true, false, _&&_, _||_}
-use Prim.Native.Nat.{ℕ, zero, suc}
+use mathlib.Core.Bool.{true, false}
+use Prim.Native.Nat.{ℕ}
 use native.Mathlib.Omega.{arith}
 use lib.ListN.{length, getD}
 use lib.Dec.{eqb}
@@ -11,7 +11,6 @@ use Rattle.octet.specs.Bytes.{bytesOf, same, is}
 use Rattle.octet.proofs.Cases.{and-no-right}
 use Rattle.octet.proofs.Lists.{same-true, length-differs}
 use Rattle.answer.specs.declared.Setup.{Setup}
-use Rattle.answer.specs.declared.Kind.{Kind}
 use Rattle.answer.specs.declared.Kind.the-variants as kind
 use Rattle.table.specs.Rows.{kindOf}
 

@@ -1,7 +1,6 @@
 -- No second answer satisfies a promise of this crate.
 use mathlib.Core.Path.{_≡_, refl, sym, _∙_}
 use mathlib.Core.List.{List}
-use mathlib.Core.Option.{Option, none, some}
 use Prim.Native.Nat.{ℕ}
 use Rattle.field.specs.declared.Index.{Index}
 use Rattle.answer.specs.declared.Setup.{Setup}

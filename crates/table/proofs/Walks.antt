@@ -1,22 +1,21 @@
 -- Rows at their places in a list of rows, and the walk of a list of rows from a place on.
-use mathlib.Core.Path.{_≡_, refl, sym, ap, _∙_}
+use mathlib.Core.Path.{_≡_, refl, ap, _∙_}
 use mathlib.Core.Bool.{Bool, true, false, cond}
-use mathlib.Core.List.{List, [], _∷_, _++_}
-use mathlib.Core.Option.{Option, none, some}
+use mathlib.Core.List.{List, _++_}
+use mathlib.Core.Option.{none, some}
 use Prim.Native.Nat.{ℕ, zero, suc, _+_, _-_, _≤_, _<_}
 use native.Mathlib.Numerals.{add-one}
 use native.Mathlib.Omega.{arith}
 use lib.ListN.{length, getD, replicate, drop, drop-of-length-le, length-append, List·getD-append}
 use lib.Seq.{drop-cons, getD-append-add}
 use lib.Dec.{ltb, lit≤}
-use borrow.Author.Tests.{ltb-true, ltb-false, lt-ltb, le-ltb}
+use borrow.Author.Tests.{ltb-true, ltb-false, lt-ltb}
 use Rattle.octet.specs.Maybe.{orElse}
 use Rattle.octet.proofs.Cases.{bool-ext}
 use Rattle.answer.specs.Numbers.{fault}
 use Rattle.answer.specs.declared.Kind.{Kind}
 use Rattle.answer.specs.declared.Kind.the-variants as kind
 use Rattle.table.specs.declared.Row.{Row}
-use Rattle.table.specs.declared.Cell.{Cell}
 use Rattle.table.specs.declared.Cell.the-variants.{Here, End}
 use Rattle.table.specs.Rows.{headerRows, rowsOf, cellOf, noRow}
 use Rattle.table.specs.Steps.{Look, valueCheck, checkFault, rowFault, rowFaultAt, walk}

@@ -1,8 +1,7 @@
 -- The table of "Phases and numbers" and the table order of "Execution reports": rows of tag, presence, form and range per type of message.
 use Prim.Native.Nat.{ℕ}
-use Prim.Native.String.{String}
 use mathlib.Core.List.{List, [], _∷_, _++_}
-use mathlib.Core.Bool.{Bool, true, false, cond, _||_}
+use mathlib.Core.Bool.{true, false, cond, _||_}
 use lib.ListN.{length, getD}
 use lib.Dec.{ltb}
 use Rattle.octet.specs.Bytes.{is}

@@ -86,6 +86,7 @@ rowFault o number row [] = cond (row .needed) (some (fault 1 (row .tag))) none
 rowFault o number row (v ∷ []) = checkFault (row .tag) (valueCheck o number (row .form) (row .range) v)
 rowFault o number row (v ∷ w ∷ vs) = some (fault 5 (row .tag))
 
+-- by a look at the body
 abbrev pub rowFaultAt : ℕ → Look → Row → Option Fault
 rowFaultAt o look row = rowFault o (look .number) row (look .values (row .tag))
 

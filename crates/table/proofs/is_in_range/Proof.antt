@@ -1,6 +1,6 @@
 -- `table::is_in_range` meets its contract, by the tests of each arm.
 use borrow.Author.Needs.{needs}
-use mathlib.Core.Path.{_≡_, sym, ap, _∙_}
+use mathlib.Core.Path.{sym}
 use borrow.Author.Tests.{eq-eqb, ne-eqb, le-leb}
 use Rattle.octet.proofs.Lists.{is-below}
 use Rattle.table.specs.Steps.{inRange}

@@ -1,6 +1,6 @@
 -- `table::judge` meets its contract: in each arm the form is known, and its reader answers.
 use borrow.Author.Needs.{needs}
-use mathlib.Core.Path.{_≡_, sym, ap, _∙_}
+use mathlib.Core.Path.{ap, _∙_}
 use mathlib.Core.Option.{none}
 use Rattle.value.specs.Readers.{checked, timeChecked, codeChecked}
 use Rattle.table.specs.Steps.{badForm, fits}

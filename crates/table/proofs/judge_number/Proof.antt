@@ -2,20 +2,20 @@
 use borrow.Author.Needs.{needs}
 use mathlib.Core.Option.{none}
 use Rattle.value.specs.Readers.{checked}
-use mathlib.Core.Path.{_≡_, sym, ap, _∙_}
+use mathlib.Core.Path.{sym, ap, _∙_}
 use denote.Ref.{now}
-use Rattle.table.proofs.Values.{number-value, number-bad, number-out}
+use Rattle.table.proofs.Values.{number-formed, number-unformed, number-never-out}
 use Rattle.table.proofs.judge_number.Statement.{statement}
 use Rattle.table.proofs.judge_number.Tie as tie
 
 returns : tie.Need-returns
-returns c = c .fitted .ensures ∙ ap (checked none) (c .before .is-in-range .ensures) ∙ number-value _ _ _ _ _ (sym (c .before .before .before .before .before .read-number .ensures .0) ∙ c .before .before .before .n .given .1)
+returns c = c .fitted .ensures ∙ ap (checked none) (c .before .is-in-range .ensures) ∙ number-formed _ _ _ _ _ (sym (c .before .before .before .before .before .read-number .ensures .0) ∙ c .before .before .before .n .given .1)
 
 returns-2 : tie.Need-returns-2
-returns-2 c = number-bad _ _ _ _ _ (sym (c .before .before .before .read-number .ensures .0) ∙ c .before .at .given .1)
+returns-2 c = number-unformed _ _ _ _ _ (sym (c .before .before .before .read-number .ensures .0) ∙ c .before .at .given .1)
 
 returns-3 : tie.Need-returns-3
-returns-3 c = number-out (now (c .before .before .before .before .before .args .v)) (sym (c .before .before .read-number .ensures .0) ∙ c .enum-told .given .1)
+returns-3 c = number-never-out (now (c .before .before .before .before .before .args .v)) (sym (c .before .before .read-number .ensures .0) ∙ c .enum-told .given .1)
 
 pub judge-number-spec : {M : Type 1} → statement M
 judge-number-spec =

@@ -4,10 +4,10 @@ use mathlib.Core.Option.{Option}
 use mathlib.Core.Bool.{true}
 use Prim.Native.Nat.{ℕ}
 use Rattle.value.specs.Readers.{checked}
-use mathlib.Core.Path.{_≡_, sym, ap, _∙_}
+use mathlib.Core.Path.{sym, ap, _∙_}
 use denote.Ref.{now}
 use Rattle.value.proofs.Prices.{price-good}
-use Rattle.table.proofs.Values.{price-bad}
+use Rattle.table.proofs.Values.{price-unformed}
 use Rattle.table.proofs.judge_price.Statement.{statement}
 use Rattle.table.proofs.judge_price.Tie as tie
 
@@ -15,7 +15,7 @@ returns : tie.Need-returns
 returns c = sym (ap (λ (o : Option ℕ). checked o true) (price-good (now (c .before .before .before .before .args .v)) _ (sym (c .before .before .read-price .ensures .0) ∙ c .enum-told .given .1) .formed))
 
 returns-2 : tie.Need-returns-2
-returns-2 c = price-bad (now (c .before .before .before .before .before .args .v)) _ (sym (c .before .before .before .read-price .ensures .0) ∙ c .before .at .given .1)
+returns-2 c = price-unformed (now (c .before .before .before .before .before .args .v)) _ (sym (c .before .before .before .read-price .ensures .0) ∙ c .before .at .given .1)
 
 pub judge-price-spec : {M : Type 1} → statement M
 judge-price-spec =

@@ -1,7 +1,6 @@
 -- `table::kind_of` meets its contract: UCC, any other length than one, and the one byte by its arms.
 use borrow.Author.Needs.{needs}
-use mathlib.Core.Path.{_≡_, refl, sym, ap, _∙_}
-use borrow.Author.Tests.{ne-eqb}
+use mathlib.Core.Path.{_≡_, sym, _∙_}
 use mathlib.Core.List.{[], _∷_}
 use lib.ListN.{length, getD}
 use Rattle.table.specs.Rows.{kindOf}

@@ -1,6 +1,6 @@
 -- `table::number_at` meets its contract: the number of the value that the lists give.
 use borrow.Author.Needs.{needs}
-use mathlib.Core.Path.{_≡_, sym, ap, _∙_}
+use mathlib.Core.Path.{ap, _∙_}
 use Rattle.value.specs.Value.{numberOr}
 use Rattle.table.proofs.number_at.Statement.{statement}
 use Rattle.table.proofs.number_at.Tie as tie

@@ -1,6 +1,6 @@
 -- `table::row_at` meets its contract: the header's rows come first.
 use borrow.Author.Needs.{needs}
-use mathlib.Core.Path.{_≡_, sym, _∙_}
+use mathlib.Core.Path.{sym, _∙_}
 use Rattle.table.specs.Rows.{headerRows, rowsOf}
 use Rattle.table.proofs.Walks.{cell-first, cell-later}
 use Rattle.table.proofs.row_at.Statement.{statement}
