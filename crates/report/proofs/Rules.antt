@@ -17,7 +17,7 @@ use Rattle.fill.specs.Slot.{fillOf, bodyOf, slotOf}
 use Rattle.report.specs.declared.Reported.{Reported}
 use Rattle.report.specs.declared.Sums.{Sums}
 use Rattle.report.specs.Report.{reportOf, firstBroken, ruleFault, afterRules, reportedOf, slotFor}
-use Rattle.report.specs.Indexed.{sumsOf}
+use Rattle.report.specs.Indexed.{sumsOf, toldBy}
 
 -- one thing is so exactly when another is
 pub exactly-yes : (t b : Bool) → t ≡ true → b ≡ Bool·beq t b
@@ -31,19 +31,9 @@ exactly-no false true e = refl
 exactly-no false false e = refl
 
 module _ (aside : Bool) (sums : Sums) (leaves : ℕ) (kind status : List ℕ) where
-  -- what the values of a report say
-  abbrev pub told : Reported
-  told =
-      afterRules aside
-      (firstBroken
-      (between (sums .shares) (sums .quantity) (sums .cum))
-      (eqb leaves (sums .quantity - sums .cum))
-      (Bool·beq (is "2" kind) (eqb leaves 0))
-      (same status kind))
-
   -- an early return names the rules up to its own
   pub rules-told : {a b d e : Bool} → between (sums .shares) (sums .quantity) (sums .cum) ≡ a → eqb leaves (sums .quantity - sums .cum) ≡ b
-      → Bool·beq (is "2" kind) (eqb leaves 0) ≡ d → same status kind ≡ e → afterRules aside (firstBroken a b d e) ≡ told
+      → Bool·beq (is "2" kind) (eqb leaves 0) ≡ d → same status kind ≡ e → afterRules aside (firstBroken a b d e) ≡ toldBy aside sums leaves kind status
   rules-told ea eb ed ee = rw (ea, eb, ed, ee)
 
 -- a number in one byte
@@ -55,12 +45,12 @@ module _ (text : ℕ → List ℕ) where
   pub sums-read : {q s k : ℕ} → q ≡ numberOr (text 38) → s ≡ numberOr (text 32) → k ≡ numberOr (text 14) → record { quantity = q; shares = s; cum = k } ≡ sumsOf text
   sums-read eq es ek = rw (eq, es, ek)
 
-  pub reported-read : (aside : Bool) {r : Reported} {sums : Sums} {leaves : ℕ} {kind status : List ℕ} → r ≡ told aside sums leaves kind status
+  pub reported-read : (aside : Bool) {r : Reported} {sums : Sums} {leaves : ℕ} {kind status : List ℕ} → r ≡ toldBy aside sums leaves kind status
       → sums ≡ sumsOf text → leaves ≡ numberOr (text 151) → kind ≡ text 150 → status ≡ text 39 → r ≡ reportedOf (reportOf text aside)
   unfolding reportedOf ruleFault reportOf
   reported-read aside {r} {sums} {leaves} {kind} {status} er es el ek et =
       er
-      ∙ ap (λ (x : Sums). told aside x leaves kind status) es
+      ∙ ap (λ (x : Sums). toldBy aside x leaves kind status) es
       ∙ rw (el, ek, et)
 
   pub slot-read : {r exec order symbol time : List ℕ} {side price : ℕ} {sums : Sums}

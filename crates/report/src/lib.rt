@@ -8,15 +8,15 @@ use fill::SLOT;
 use table::number_at;
 ghost use mathlib.Core.Path.{_≡_};
 ghost use mathlib.Core.Bool.{Bool·beq};
-ghost use Prim.Native.Nat.{_-_, _%_, _≤_};
+ghost use Prim.Native.Nat.{_-_, _%_};
 ghost use lib.Dec.{eqb};
 ghost use Rattle.octet.specs.Bytes.{between, same, is};
 ghost use Rattle.value.specs.Value.{numberOr, priceIn};
 ghost use Rattle.answer.specs.Numbers.{fault};
 ghost use Rattle.field.specs.Index.{valueIn};
 ghost use Rattle.report.specs.declared.Reported.the-variants.{Faulty};
-ghost use Rattle.report.specs.Report.{reportOf, firstBroken, afterRules, reportedOf, slotFor};
-ghost use Rattle.report.specs.Indexed.{textAtPlaces, textBy, asideIn, reportBy, sumsOf};
+ghost use Rattle.report.specs.Report.{reportOf, reportedOf, slotFor};
+ghost use Rattle.report.specs.Indexed.{textAtPlaces, textBy, asideIn, reportBy, sumsOf, toldBy};
 
 // What a report says: it breaks a rule, it is set aside, or it tells of a fill.
 pub enum Reported {
@@ -87,11 +87,10 @@ fn side_at<'a>(body: &[u8], start: &'a [usize; TAGS], len: &'a [usize; TAGS]) ->
 fn keeps_14(sums: Sums) -> bool
     ensures { λ r. ⌜ r ≡ between (sums .shares) (sums .quantity) (sums .cum) ⌝ }
 {
-    let cum = sums.cum;
-    if cum < sums.shares {
+    if sums.cum < sums.shares {
         return false;
     }
-    cum <= sums.quantity
+    sums.cum <= sums.quantity
 }
 
 // "151 = 38 − 14", which is 0 where 14 is above 38.
@@ -136,14 +135,7 @@ fn broken(tag: u32) -> Reported
 
 // The four rules in their order; "A report with 442 is set aside" after them.
 fn judged<'a>(sums: Sums, leaves: u32, kind: &'a [u8], status: &'a [u8], aside: bool) -> Reported
-    ensures { λ r. ⌜
-        r ≡ afterRules aside
-        (firstBroken
-        (between (sums .shares) (sums .quantity) (sums .cum))
-        (eqb leaves (sums .quantity - sums .cum))
-        (Bool·beq (is "2" (now (kind .entry))) (eqb leaves 0))
-        (same (now (status .entry)) (now (kind .entry))))
-        ⌝ }
+    ensures { λ r. ⌜ r ≡ toldBy aside sums leaves (now (kind .entry)) (now (status .entry)) ⌝ }
 {
     if !keeps_14(sums) {
         return broken(CUM_QTY);
