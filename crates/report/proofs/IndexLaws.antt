@@ -1,10 +1,10 @@
 -- By its own index a report is that of the body's pieces, and so is its slot.
-use mathlib.Core.Path.{_≡_, refl, ap, _∙_}
+use mathlib.Core.Path.{_≡_, ap, _∙_}
 use mathlib.Core.List.{List}
-use mathlib.Core.Bool.{Bool, not}
+use mathlib.Core.Bool.{not}
 use Prim.Native.Nat.{ℕ}
 use Rattle.octet.specs.Maybe.{isNone}
-use Rattle.field.specs.Pieces.{Pieces, piecesOf, firstOf, textAt}
+use Rattle.field.specs.Pieces.{piecesOf, firstOf, textAt}
 use Rattle.field.specs.Index.{indexOf}
 use Rattle.field.proofs.IndexLaws.{value-law, missing-law}
 use Rattle.report.specs.Report.{reportOf, reportIn, reportedOf, reportedIn, slotFor, slotIn}

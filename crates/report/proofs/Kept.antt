@@ -2,20 +2,25 @@
 --     kept, rules-kept     a report has no fault by the rules exactly where it keeps all four
 --     faulty-told, aside-told, fill-told     what each answer means
 --     tells-faulty, tells-aside, tells-fill     when each answer is given
+--     keeps-rules, rules-keep, good-fill, fill-keeps     the same by the values of the tags, on the pieces of a body
 use mathlib.Core.Path.{_≡_, refl, sym, ap, _∙_, subst}
+use mathlib.Core.List.{List}
 use mathlib.Core.Option.{Option, none, some}
-use mathlib.Core.Bool.{Bool, true, false, Bool·beq}
+use mathlib.Core.Bool.{Bool, true, false, not, Bool·beq}
 use Prim.Native.Nat.{ℕ, _-_, _≤_}
 use native.Mathlib.Omega.{arith}
 use lib.Dec.{eqb}
 use borrow.Author.Tests.{eqb-true, eq-eqb}
 use Rattle.octet.specs.Bytes.{is}
+use Rattle.octet.specs.Maybe.{isNone}
 use Rattle.octet.proofs.Lists.{same-true, same-of, is-between, between-low, between-high}
+use Rattle.field.specs.Pieces.{Pieces, firstOf, textAt}
+use Rattle.table.specs.Steps.{numberAt}
 use Rattle.answer.specs.declared.Fault.{Fault}
 use Rattle.report.specs.declared.Reported.{Reported}
 use Rattle.report.specs.declared.Reported.the-variants.{Faulty, Aside}
 use Rattle.report.specs.declared.Reported.the-variants as reported
-use Rattle.report.specs.Report.{Report, rule14, rule151, rule150, rule39, firstBroken, ruleFault, afterRules, reportedOf}
+use Rattle.report.specs.Report.{Report, rule14, rule151, rule150, rule39, firstBroken, ruleFault, afterRules, reportedOf, reportOf, reportIn, reportedIn}
 
 -- "14 between 32's and 38's; 151 = 38 − 14; 150 is 2 exactly when 151 is 0; 39 equals 150"
 pub record Kept (r : Report) : Type 0 where
@@ -102,3 +107,38 @@ module _ (r : Report) where
   pub tells-fill : ruleFault r ≡ none → r .aside ≡ false → reportedOf r ≡ reported.Fill
   unfolding reportedOf
   tells-fill e f = rw (e, f)
+
+-- ---- on the pieces of a body
+
+-- the four rules, by the values of the tags
+pub record Keeps (ps : Pieces) : Type 0 where
+  pub shares-cum : numberAt 32 ps ≤ numberAt 14 ps
+  pub cum-quantity : numberAt 14 ps ≤ numberAt 38 ps
+  pub leaves : numberAt 151 ps ≡ numberAt 38 ps - numberAt 14 ps
+  pub done : is "2" (textAt 150 ps) ≡ eqb (numberAt 151 ps) 0
+  pub status : textAt 39 ps ≡ textAt 150 ps
+
+module _ (ps : Pieces) where
+  pub aside-is : reportIn ps .aside ≡ not (isNone (firstOf 442 ps))
+  unfolding reportOf
+  aside-is = refl
+
+  pub keeps-rules : Keeps ps → ruleFault (reportIn ps) ≡ none
+  unfolding reportOf
+  keeps-rules k =
+      rules-kept (reportIn ps)
+      (record { shares-cum = k .shares-cum; cum-quantity = k .cum-quantity; leaves = k .leaves; done = k .done; status = k .status })
+
+  pub rules-keep : ruleFault (reportIn ps) ≡ none → Keeps ps
+  unfolding reportOf
+  rules-keep e =
+      let k = kept (reportIn ps) e in
+      record { shares-cum = k .shares-cum; cum-quantity = k .cum-quantity; leaves = k .leaves; done = k .done; status = k .status }
+
+  -- a report that keeps the rules and has no 442 tells of a fill
+  pub good-fill : Keeps ps → firstOf 442 ps ≡ none → reportedIn ps ≡ reported.Fill
+  good-fill k e = tells-fill (reportIn ps) (keeps-rules k) (aside-is ∙ ap (λ (o : Option (List ℕ)). not (isNone o)) e)
+
+  -- one that tells of a fill keeps them
+  pub fill-keeps : reportedIn ps ≡ reported.Fill → Keeps ps
+  fill-keeps e = rules-keep (fill-told (reportIn ps) e .0)

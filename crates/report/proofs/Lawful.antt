@@ -2,22 +2,19 @@
 --     slot-long, slot-marked     of any pieces
 --     report-back     what a faultless report says is read back from its slot
 --     report-lawful     a faultless report that keeps the four rules has a lawful slot
-use mathlib.Core.Path.{_≡_, refl, sym, ap, _∙_, subst}
+use mathlib.Core.Path.{_≡_, refl, ap, _∙_}
 use mathlib.Core.Logic.{⊎-elim}
-use mathlib.Core.List.{List}
 use mathlib.Core.Option.{none}
-use mathlib.Core.Bool.{Bool, true, not}
-use Prim.Native.Nat.{ℕ, _≤_, _<_}
+use mathlib.Core.Bool.{true}
+use Prim.Native.Nat.{ℕ, _≤_}
 use native.Mathlib.Omega.{arith}
 use lib.ListN.{length}
 use Rattle.octet.specs.Bytes.{between}
-use Rattle.octet.specs.Maybe.{isNone}
 use Rattle.octet.specs.Padded.{textOf}
-use Rattle.octet.proofs.Lists.{is-between}
-use Rattle.value.specs.Value.{numberOr, priceIn}
+use Rattle.value.specs.Value.{priceIn}
 use Rattle.value.proofs.Prices.{price-small}
 use Rattle.value.proofs.Times.{time-is}
-use Rattle.field.specs.Pieces.{Pieces, firstOf, textAt}
+use Rattle.field.specs.Pieces.{Pieces, textAt}
 use Rattle.answer.specs.declared.Setup.{Setup}
 use Rattle.answer.specs.declared.Phase.{Phase}
 use Rattle.answer.specs.declared.Kind.the-variants as kind
