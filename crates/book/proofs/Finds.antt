@@ -3,15 +3,16 @@
 --     id-search, id-sum     so a search and a sum by an ID look no further
 --     find-hit, find-skip, sum-next     a walk: at slot i
 --     none-sum     where nothing is found there is nothing to add
+--     sum-append     the sum over slots and more of them
 --     exec-pred, order-pred     the two predicates are one, over the ID's place
 --     found-some, known-none, known-some     what a search hands back
 use mathlib.Core.Path.{_≡_, refl, sym, ap, ap₂, _∙_}
-use mathlib.Core.List.{List, [], _∷_}
+use mathlib.Core.List.{List, [], _∷_, _++_}
 use mathlib.Core.Option.{Option, none, some}
 use mathlib.Core.Bool.{Bool, true, false, cond, _&&_}
 use mathlib.Core.Logic.{⊎-elim}
 use Prim.Native.Nat.{ℕ, zero, suc, _+_, _-_, _*_, _≤_, _<_, min}
-use native.Mathlib.Nat.{zero-add}
+use native.Mathlib.Nat.{zero-add, add-assoc}
 use native.Mathlib.Omega.{arith}
 use lib.ListN.{length, take, drop, getD, length-drop}
 use lib.Seq.{getD-take}
@@ -20,18 +21,18 @@ use Rattle.octet.specs.Bytes.{same, part}
 use Rattle.octet.specs.Maybe.{find}
 use Rattle.octet.proofs.Cases.{bool-case, contrary, le-or-lt, find-here, find-later, and-no-right}
 use Rattle.octet.proofs.Lists.{same-sym, length-differs, length-part, part-part}
-use Rattle.fill.specs.Slot.{Slot, slotWidth, mostFills, bookWidth, isFill, execOf, orderOf, sharesOf}
+use Rattle.fill.specs.Slot.{Slot, slotWidth, mostFills, bookWidth, fillMark, isFill, execOf, orderOf, sharesOf}
 use Rattle.book.specs.Place.{sameExec, sameOrder, sumWhere}
 use Rattle.book.specs.Memory.{slotsIn}
-use Rattle.book.specs.Known.{hasId, someSlot}
+use Rattle.book.specs.Known.{execAt, orderAt, idWidth, hasId, someSlot}
 use Rattle.book.proofs.Slots.{slots-next, slots-last}
 
 -- ---- the predicates
-pub exec-pred : (a : Slot) → sameExec a ≡ hasId 1 (execOf a)
+pub exec-pred : (a : Slot) → sameExec a ≡ hasId execAt (execOf a)
 unfolding sameExec hasId
 exec-pred a = refl
 
-pub order-pred : (a : Slot) → sameOrder a ≡ hasId 22 (orderOf a)
+pub order-pred : (a : Slot) → sameOrder a ≡ hasId orderAt (orderOf a)
 unfolding sameOrder hasId
 order-pred a = refl
 
@@ -154,30 +155,37 @@ none-sum p (s ∷ ss) e =
     (λ (h : p s ≡ false). rw h (zero-add (sumWhere p ss) ∙ none-sum p ss (sym (find-later p s ss h) ∙ e)))
     (bool-case (p s))
 
+-- the sum over slots and more of them
+pub sum-append : (p : Slot → Bool) (ss tt : List Slot) → sumWhere p (ss ++ tt) ≡ sumWhere p ss + sumWhere p tt
+unfolding sumWhere
+sum-append p [] tt = sym (zero-add (sumWhere p tt))
+sum-append p (s ∷ ss) tt =
+    ap (λ (n : ℕ). cond (p s) (sharesOf s) 0 + n) (sum-append p ss tt) ∙ sym (add-assoc (cond (p s) (sharesOf s) 0) (sumWhere p ss) (sumWhere p tt))
+
 -- ---- the ID of the slot at a place of the memory
-module _ (m : List ℕ) (at off : ℕ) (x : List ℕ) (slot-in : at + slotWidth ≤ length m) (id-in : off + 21 ≤ slotWidth) where
-  pub id-width : (length x ≡ 21 → ⊥) → hasId off x (part at slotWidth m) ≡ false
+module _ (m : List ℕ) (at off : ℕ) (x : List ℕ) (slot-in : at + slotWidth ≤ length m) (id-in : off + idWidth ≤ slotWidth) where
+  pub id-width : (length x ≡ idWidth → ⊥) → hasId off x (part at slotWidth m) ≡ false
   unfolding hasId
   id-width h =
       let s = part at slotWidth m in
       let l = length-part at slotWidth m slot-in in
-      let n = length-part off 21 s (omega arith) in
-      and-no-right (isFill s) (same x (part off 21 s)) (length-differs x (part off 21 s) (λ e. h (e ∙ n)))
+      let n = length-part off idWidth s (omega arith) in
+      and-no-right (isFill s) (same x (part off idWidth s)) (length-differs x (part off idWidth s) (λ e. h (e ∙ n)))
 
-  id-same : length x ≡ 21 → same x (part off 21 (part at slotWidth m)) ≡ same (part (at + off) (length x) m) x
+  id-same : length x ≡ idWidth → same x (part off idWidth (part at slotWidth m)) ≡ same (part (at + off) (length x) m) x
   id-same h =
-      same-sym x (part off 21 (part at slotWidth m))
-      ∙ ap (λ (l : List ℕ). same l x) (part-part at slotWidth off 21 m id-in ∙ ap (λ (k : ℕ). part (at + off) k m) (sym h))
+      same-sym x (part off idWidth (part at slotWidth m))
+      ∙ ap (λ (l : List ℕ). same l x) (part-part at slotWidth off idWidth m id-in ∙ ap (λ (k : ℕ). part (at + off) k m) (sym h))
 
-  pub id-other : length x ≡ 21 → same (part (at + off) (length x) m) x ≡ false → hasId off x (part at slotWidth m) ≡ false
+  pub id-other : length x ≡ idWidth → same (part (at + off) (length x) m) x ≡ false → hasId off x (part at slotWidth m) ≡ false
   unfolding hasId
-  id-other h e = and-no-right (isFill (part at slotWidth m)) (same x (part off 21 (part at slotWidth m))) (id-same h ∙ e)
+  id-other h e = and-no-right (isFill (part at slotWidth m)) (same x (part off idWidth (part at slotWidth m))) (id-same h ∙ e)
 
-  pub id-found : length x ≡ 21 → same (part (at + off) (length x) m) x ≡ true → isFill (drop at m) ≡ hasId off x (part at slotWidth m)
+  pub id-found : length x ≡ idWidth → same (part (at + off) (length x) m) x ≡ true → isFill (drop at m) ≡ hasId off x (part at slotWidth m)
   unfolding hasId
   id-found h e =
       let g : getD (part at slotWidth m) 0 0 ≡ getD (drop at m) 0 0 = getD-take slotWidth (drop at m) 0 0 (omega arith) in
-      sym (ap₂ _&&_ (ap (λ (b : ℕ). eqb b 1) g) (id-same h ∙ e) ∙ and-true (isFill (drop at m)))
+      sym (ap₂ _&&_ (ap (λ (b : ℕ). eqb b fillMark) g) (id-same h ∙ e) ∙ and-true (isFill (drop at m)))
     where
       and-true : (b : Bool) → b && true ≡ b
       and-true true = refl

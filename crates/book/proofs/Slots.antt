@@ -4,6 +4,7 @@
 --     slots-drop, slots-nth     the slots from i on, and the i-th
 --     slots-append     a slot written after the last is one slot more
 --     slots-joined     a memory that begins with slots, one after another, has those slots
+--     slots-wide, joined-slots     a memory that has them whole: each is as wide as a slot, and joined they are its front
 --     appended-length     what is written leaves the memory's length
 use mathlib.Core.Path.{_≡_, refl, sym, ap, ap₂, _∙_}
 use mathlib.Core.List.{List, [], _∷_, _++_, append-assoc}
@@ -12,8 +13,8 @@ use Prim.Native.Nat.{ℕ, zero, suc, _+_, _-_, _*_, _≤_, _<_}
 use native.Mathlib.Nat.{sub-zero, zero-sub, suc-sub-suc, sub-eq-zero-of-le, le-refl}
 use native.Mathlib.Numerals.{add-one}
 use native.Mathlib.Omega.{arith}
-use lib.ListN.{length, take, drop, getD}
-use lib.Seq.{drop-drop, take-take, take-at, drop-at}
+use lib.ListN.{length, take, drop, getD, length-drop}
+use lib.Seq.{length-take-le, take-add, drop-drop, take-take, take-at, drop-at}
 use lib.Dec.{ltb, eqb}
 use borrow.Author.Tests.{lt-ltb, eq-eqb}
 use Rattle.octet.specs.Bytes.{part, joined}
@@ -133,3 +134,19 @@ slots-joined (s ∷ ss) rest (more-wide h w) =
     let q : drop slotWidth ((s ++ joined ss) ++ rest) ≡ joined ss ++ rest = ap (drop slotWidth) e ∙ drop-at s (joined ss ++ rest) slotWidth h in
     let r = slots-joined ss rest w in
     ap₂ (λ (x : Slot) (l : List ℕ). x ∷ slotsIn (length ss) l) p q ∙ ap (λ (t : List Slot). s ∷ t) r
+
+-- the slots of a memory that has them whole are wide, and joined they are its front
+pub slots-wide : (n : ℕ) (m : List ℕ) → n * slotWidth ≤ length m → Wide (slotsIn n m)
+unfolding slotsIn
+slots-wide zero m h = none-wide
+slots-wide (suc n) m h =
+    more-wide (length-take-le slotWidth m (omega arith)) (slots-wide n (drop slotWidth m) (omega (arith, length-drop slotWidth m)))
+
+pub joined-slots : (n : ℕ) (m : List ℕ) → joined (slotsIn n m) ≡ take (n * slotWidth) m
+unfolding slotsIn
+joined-slots zero m = refl
+joined-slots (suc n) m =
+    let e : slotWidth + n * slotWidth ≡ suc n * slotWidth = omega arith in
+    ap (λ (l : List ℕ). take slotWidth m ++ l) (joined-slots n (drop slotWidth m))
+    ∙ sym (take-add slotWidth (n * slotWidth) m)
+    ∙ ap (λ (k : ℕ). take k m) e

@@ -4,13 +4,19 @@ use mathlib.Core.List.{List, [], _∷_}
 use mathlib.Core.Option.{Option, none, some}
 use mathlib.Core.Bool.{Bool, _&&_}
 use Rattle.octet.specs.Bytes.{same, part}
-use Rattle.fill.specs.Slot.{Slot, isFill}
+use Rattle.fill.specs.Slot.{Slot, widthOf, placeOf, isFill}
 use Rattle.book.specs.Place.{ordersWith, inStep}
 use Rattle.book.specs.declared.Booking.{Booking}
 
--- ExecID and OrderID have one width
+-- where ExecID and OrderID stand in a slot, and their one width
+abbrev pub execAt : ℕ
+execAt = placeOf 0
+
+abbrev pub orderAt : ℕ
+orderAt = placeOf 1
+
 abbrev pub idWidth : ℕ
-idWidth = 21
+idWidth = widthOf 0
 
 -- a fill that has x as its ID at that place: of sameExec and sameOrder, what differs
 unfoldable pub hasId : ℕ → List ℕ → Slot → Bool

@@ -7,11 +7,11 @@ ghost use lib.ListN.{length};
 ghost use Rattle.octet.specs.Bytes.{part};
 ghost use Rattle.octet.specs.Maybe.{find, isNone};
 ghost use Rattle.answer.specs.Numbers.{fault};
-ghost use Rattle.fill.specs.Slot.{slotWidth, cumOf, sharesOf};
+ghost use Rattle.fill.specs.Slot.{slotWidth, mostFills, sharesOf, cumOf};
 ghost use Rattle.book.specs.Place.{sameContents, sameExec, sameOrder, byOrder, place, knownOrder, ordersWith, hasRoom, sumWhere, carried, inStep};
 ghost use Rattle.book.specs.Memory.{slotsIn, fitsAfter, appended};
 ghost use Rattle.book.specs.declared.Placed.the-variants.{Clash};
-ghost use Rattle.book.specs.Known.{hasId, someSlot, largest, bookingOf};
+ghost use Rattle.book.specs.Known.{orderAt, idWidth, hasId, someSlot, largest, bookingOf};
 use answer::Fault;
 use fill::BOOK;
 use fill::FILLS;
@@ -38,14 +38,14 @@ const MOST_COUNTED: u32 = 4294967295;
 
 // How many of count slots lie in the memory: those past its end are empty, and no search looks for one.
 fn inside(count: usize) -> usize
-    ensures { λ r. ⌜ r ≡ min count 512 ⌝ }
+    ensures { λ r. ⌜ r ≡ min count mostFills ⌝ }
 {
     if count < FILLS { count } else { FILLS }
 }
 
 // Whether the slot at place `at` is a fill that has x as its ID at `off`. The ID is looked at first: it is what differs.
 fn has_id(m: &[u8], at: usize, off: usize, x: &[u8]) -> bool
-    requires { ⌜ (at + slotWidth ≤ length (now m)) × (off + 21 ≤ slotWidth) ⌝ }
+    requires { ⌜ (at + slotWidth ≤ length (now m)) × (off + idWidth ≤ slotWidth) ⌝ }
     ensures { λ r. ⌜ r ≡ hasId off (now (x .entry)) (part at slotWidth (now (m .entry))) ⌝ }
 {
     if x.len() != ID {
@@ -59,7 +59,7 @@ fn has_id(m: &[u8], at: usize, off: usize, x: &[u8]) -> bool
 
 // The first of n slots that is a fill with x as its ID at `off`; no bytes where there is none. The one search over the slots.
 fn find_slot<'a>(m: &'a [u8], n: usize, off: usize, x: &[u8]) -> &'a [u8]
-    requires { ⌜ (n ≤ 512) × (n * slotWidth ≤ length (now m)) × (off + 21 ≤ slotWidth) ⌝ }
+    requires { ⌜ (n ≤ mostFills) × (n * slotWidth ≤ length (now m)) × (off + idWidth ≤ slotWidth) ⌝ }
     ensures { λ r. ⌜ someSlot (now r) ≡ find (hasId off (now (x .entry))) (slotsIn n (now (m .entry))) ⌝ }
 {
     let mut i = 0;
@@ -188,7 +188,7 @@ pub fn orders_with(book: &[u8; BOOK], count: usize, orders: u32, slot: &[u8]) ->
 // LastShares of the slot at place `at` where it is a fill with x as its OrderID, else 0.
 fn shares_if(m: &[u8], at: usize, x: &[u8]) -> u32
     requires { ⌜ at + slotWidth ≤ length (now m) ⌝ }
-    ensures { λ r. ⌜ r ≡ cond (hasId 22 (now (x .entry)) (part at slotWidth (now (m .entry)))) (sharesOf (part at slotWidth (now (m .entry)))) 0 ⌝ }
+    ensures { λ r. ⌜ r ≡ cond (hasId orderAt (now (x .entry)) (part at slotWidth (now (m .entry)))) (sharesOf (part at slotWidth (now (m .entry)))) 0 ⌝ }
 {
     if has_id(m, at, fill::ORDER_AT, x) {
         return fill::shares_of(&m[at..at + SLOT]);
@@ -204,8 +204,8 @@ fn wide(n: u32) -> u64
 
 // The sum of LastShares over n slots.
 fn sum_in(m: &[u8], n: usize, x: &[u8]) -> u64
-    requires { ⌜ (n ≤ 512) × (n * slotWidth ≤ length (now m)) ⌝ }
-    ensures { λ r. ⌜ (r ≡ sumWhere (hasId 22 (now (x .entry))) (slotsIn n (now (m .entry)))) × (r ≤ 512 * largest) ⌝ }
+    requires { ⌜ (n ≤ mostFills) × (n * slotWidth ≤ length (now m)) ⌝ }
+    ensures { λ r. ⌜ (r ≡ sumWhere (hasId orderAt (now (x .entry))) (slotsIn n (now (m .entry)))) × (r ≤ mostFills * largest) ⌝ }
 {
     let mut sum: u64 = 0;
     let mut i = 0;
@@ -218,15 +218,21 @@ fn sum_in(m: &[u8], n: usize, x: &[u8]) -> u64
 
 // The order's "booked sum".
 pub fn booked_sum(book: &[u8; BOOK], count: usize, slot: &[u8]) -> u64
-    ensures { λ r. ⌜ (r ≡ sumWhere (sameOrder (now (slot .entry))) (slotsIn count (now (book .entry)))) × (r ≤ 512 * largest) ⌝ }
+    ensures { λ r. ⌜ (r ≡ sumWhere (sameOrder (now (slot .entry))) (slotsIn count (now (book .entry)))) × (r ≤ mostFills * largest) ⌝ }
 {
     sum_in(book, inside(count), fill::order_of(slot))
 }
 
-fn less(a: u32, b: u32) -> u32
-    ensures { λ r. ⌜ r ≡ a - b ⌝ }
+// "CumQty less LastShares"; 0 where that is the greater.
+fn carried_of(s: &[u8]) -> u32
+    ensures { λ r. ⌜ r ≡ cumOf (now (s .entry)) - sharesOf (now (s .entry)) ⌝ }
 {
-    if a < b { 0 } else { a - b }
+    let cum = fill::cum_of(s);
+    let shares = fill::shares_of(s);
+    if cum < shares {
+        return 0;
+    }
+    cum - shares
 }
 
 // "carried-in (first report's CumQty less LastShares)": the first report is known, or slot where none is.
@@ -234,15 +240,15 @@ fn carried_in(slot: &[u8], known: &[u8]) -> u32
     ensures { λ r. ⌜ r ≡ carried (now (slot .entry)) (someSlot (now (known .entry))) ⌝ }
 {
     if known.len() == 0 {
-        return less(fill::cum_of(slot), fill::shares_of(slot));
+        return carried_of(slot);
     }
-    less(fill::cum_of(known), fill::shares_of(known))
+    carried_of(known)
 }
 
 // The booked sum, which is 0 where the order is not known.
 fn sum_of(book: &[u8; BOOK], count: usize, slot: &[u8], known: &[u8]) -> u64
     requires { ⌜ someSlot (now known) ≡ find (sameOrder (now slot)) (slotsIn count (now book)) ⌝ }
-    ensures { λ r. ⌜ (r ≡ sumWhere (sameOrder (now (slot .entry))) (slotsIn count (now (book .entry)))) × (r ≤ 512 * largest) ⌝ }
+    ensures { λ r. ⌜ (r ≡ sumWhere (sameOrder (now (slot .entry))) (slotsIn count (now (book .entry)))) × (r ≤ mostFills * largest) ⌝ }
 {
     if known.len() == 0 {
         return 0;

@@ -25,7 +25,7 @@ use Rattle.octet.proofs.Places.{number-length, number-back}
 use Rattle.octet.proofs.Padded.{fits-width, padded-length, padded-back, padded-ok}
 use Rattle.value.specs.Value.{isTime}
 use Rattle.value.proofs.Times.{time-is, time-filled}
-use Rattle.fill.specs.Slot.{Fill, widths, bodyWidth, slotWidth, mostFills, bookWidth, textField, fullTime, timeField, partsOf, bodyOf, slotOf, fillMark, field, execOf, orderOf, symbolOf, sideOf, quantityOf, sharesOf, priceOf, cumOf, timeOf, textLawful, slotLawful}
+use Rattle.fill.specs.Slot.{Fill, widths, widthOf, placeOf, bodyWidth, slotWidth, mostFills, bookWidth, textField, fullTime, timeField, partsOf, bodyOf, slotOf, fillMark, field, execOf, orderOf, symbolOf, sideOf, quantityOf, sharesOf, priceOf, cumOf, timeOf, textLawful, slotLawful}
 use Rattle.fill.proofs.Parts.{lengthsOf, joined-length, part-laid, written, written-joined}
 
 pub slot-size : slotWidth ≡ 94
@@ -51,7 +51,7 @@ time-length width t = length-take-le width _ (simp (length-append, length-replic
 
 pub parts-lengths : (f : Fill) → lengthsOf (partsOf f) ≡ widths
 parts-lengths f =
-    simp (text-length 21 (f .exec) (omega arith) (omega arith), text-length 21 (f .order) (omega arith) (omega arith), text-length 9 (f .symbol) (omega arith) (omega arith), number-length, time-length 21 (f .time))
+    simp (text-length (widthOf 0) (f .exec) (omega arith) (omega arith), text-length (widthOf 1) (f .order) (omega arith) (omega arith), text-length (widthOf 2) (f .symbol) (omega arith) (omega arith), number-length, time-length (widthOf 8) (f .time))
 
 pub slot-length : (f : Fill) → length (slotOf (bodyOf f)) ≡ slotWidth
 unfolding bodyOf
@@ -84,28 +84,28 @@ module _ (f : Fill) where
   made = slotOf (bodyOf f)
 
   pub exec-back : length (f .exec) ≤ 20 → textOf (execOf made) ≡ f .exec
-  exec-back h = text-back f 0 21 (f .exec) refl (omega arith)
+  exec-back h = text-back f 0 (widthOf 0) (f .exec) refl (omega arith)
 
   pub order-back : length (f .order) ≤ 20 → textOf (orderOf made) ≡ f .order
-  order-back h = text-back f 1 21 (f .order) refl (omega arith)
+  order-back h = text-back f 1 (widthOf 1) (f .order) refl (omega arith)
 
   pub symbol-back : length (f .symbol) ≤ 8 → textOf (symbolOf made) ≡ f .symbol
-  symbol-back h = text-back f 2 9 (f .symbol) refl (omega arith)
+  symbol-back h = text-back f 2 (widthOf 2) (f .symbol) refl (omega arith)
 
   pub side-back : f .side < 256 → sideOf made ≡ f .side
-  side-back h = high-back f 3 1 (f .side) refl h
+  side-back h = high-back f 3 (widthOf 3) (f .side) refl h
 
   pub quantity-back : f .quantity < 256 ^ 4 → quantityOf made ≡ f .quantity
-  quantity-back h = high-back f 4 4 (f .quantity) refl h
+  quantity-back h = high-back f 4 (widthOf 4) (f .quantity) refl h
 
   pub shares-back : f .shares < 256 ^ 4 → sharesOf made ≡ f .shares
-  shares-back h = high-back f 5 4 (f .shares) refl h
+  shares-back h = high-back f 5 (widthOf 5) (f .shares) refl h
 
   pub price-back : f .price < 256 ^ 8 → priceOf made ≡ f .price
-  price-back h = high-back f 6 8 (f .price) refl h
+  price-back h = high-back f 6 (widthOf 6) (f .price) refl h
 
   pub cum-back : f .cum < 256 ^ 4 → cumOf made ≡ f .cum
-  cum-back h = high-back f 7 4 (f .cum) refl h
+  cum-back h = high-back f 7 (widthOf 7) (f .cum) refl h
 
   pub time-back : (length (f .time) ≡ 17) ⊎ (length (f .time) ≡ 21) → timeOf made ≡ fullTime (f .time)
   time-back h = field-is f 8 ∙ time-whole (f .time) h
@@ -138,11 +138,13 @@ made-slot f rest h =
 
 -- the mark and the nine parts, one after another
 pub slot-made : (f : Fill) (rest a b d e g h i j k : List ℕ) → length rest ≡ bodyWidth → f .side < 256
-    → a ≡ splice (fillMark ∷ rest) 1 (textField 21 (f .exec)) → b ≡ splice a 22 (textField 21 (f .order)) → d ≡ splice b 43 (textField 9 (f .symbol))
-    → e ≡ set d 52 (f .side) → g ≡ splice e 53 (high 4 (f .quantity)) → h ≡ splice g 57 (high 4 (f .shares)) → i ≡ splice h 61 (high 8 (f .price))
-    → j ≡ splice i 69 (high 4 (f .cum)) → k ≡ splice j 73 (timeField 21 (f .time)) → k ≡ slotOf (bodyOf f)
+    → a ≡ splice (fillMark ∷ rest) (placeOf 0) (textField (widthOf 0) (f .exec)) → b ≡ splice a (placeOf 1) (textField (widthOf 1) (f .order))
+    → d ≡ splice b (placeOf 2) (textField (widthOf 2) (f .symbol)) → e ≡ set d (placeOf 3) (f .side)
+    → g ≡ splice e (placeOf 4) (high (widthOf 4) (f .quantity)) → h ≡ splice g (placeOf 5) (high (widthOf 5) (f .shares))
+    → i ≡ splice h (placeOf 6) (high (widthOf 6) (f .price)) → j ≡ splice i (placeOf 7) (high (widthOf 7) (f .cum))
+    → k ≡ splice j (placeOf 8) (timeField (widthOf 8) (f .time)) → k ≡ slotOf (bodyOf f)
 slot-made f rest a b d e g h i j k n s ea eb ed ee eg eh ei ej ek =
-    let es : set d 52 (f .side) ≡ splice d 52 (high 1 (f .side)) = set-splice d 52 (f .side) ∙ ap (splice d 52) (sym (one-byte (f .side) s)) in
+    let es : set d (placeOf 3) (f .side) ≡ splice d (placeOf 3) (high (widthOf 3) (f .side)) = set-splice d (placeOf 3) (f .side) ∙ ap (splice d (placeOf 3)) (sym (one-byte (f .side) s)) in
     cc (made-slot f rest n)
 
 -- a text that is cut to its field
@@ -213,9 +215,9 @@ text-lawful f i width t e some short h g =
 pub slot-lawful : (f : Fill) → Sound f → slotLawful (slotOf (bodyOf f)) ≡ true
 unfolding slotLawful
 slot-lawful f y =
-    let a = text-lawful f 0 21 (f .exec) refl (y .exec-some) (omega arith) (omega arith) (y .exec-graph) in
-    let b = text-lawful f 1 21 (f .order) refl (y .order-some) (omega arith) (omega arith) (y .order-graph) in
-    let d = text-lawful f 2 9 (f .symbol) refl (y .symbol-some) (omega arith) (omega arith) (y .symbol-graph) in
+    let a = text-lawful f 0 (widthOf 0) (f .exec) refl (y .exec-some) (omega arith) (omega arith) (y .exec-graph) in
+    let b = text-lawful f 1 (widthOf 1) (f .order) refl (y .order-some) (omega arith) (omega arith) (y .order-graph) in
+    let d = text-lawful f 2 (widthOf 2) (f .symbol) refl (y .symbol-some) (omega arith) (omega arith) (y .symbol-graph) in
     let side-most = between-high 1 2 (f .side) (y .side-one) in
     let e = side-back f (omega arith) in
     let q = quantity-back f (omega arith) in

@@ -1,14 +1,16 @@
 -- The tests of a lawful slot, put together from what each of them said: an early return names the tests up to its own.
 --     texts-by, sums-by, lawful-by     the definition, test by test
+--     lawful-sums     what the sums of a lawful slot are
 --     time-yes, time-form, time-range     what the reader of a time answers, as a test
 use mathlib.Core.Path.{_≡_, sym}
 use mathlib.Core.List.{List}
 use mathlib.Core.Bool.{Bool, true, false, _&&_}
-use Prim.Native.Nat.{ℕ}
+use Prim.Native.Nat.{ℕ, _≤_}
 use native.Mathlib.Omega.{arith}
 use lib.Dec.{leb}
 use Rattle.octet.specs.Bytes.{between}
-use Rattle.octet.proofs.Cases.{not-true-false}
+use borrow.Author.Tests.{leb-true}
+use Rattle.octet.proofs.Cases.{not-true-false, and-left, and-right}
 use Rattle.value.specs.Value.{isTime}
 use Rattle.value.specs.Readers.{timeChecked}
 use Rattle.value.specs.declared.Check.{Check}
@@ -28,6 +30,27 @@ module _ (s : Slot) where
       → a && b && d && e && f ≡ slotLawful s
   unfolding slotLawful
   lawful-by ea eb ed ee ef = cc
+
+-- what the sums of a lawful slot are
+pub record Sums (s : Slot) : Type 0 where
+  pub some : 1 ≤ sharesOf s
+  pub cum : sharesOf s ≤ cumOf s
+  pub quantity : cumOf s ≤ quantityOf s
+  pub most : quantityOf s ≤ 999999
+
+pub lawful-sums : (s : Slot) → slotLawful s ≡ true → Sums s
+unfolding slotLawful
+lawful-sums s e =
+    let front = and-left (textsLawful s && between 1 2 (sideOf s) && sumsLawful s && leb (priceOf s) 99999999999) (isTime (timeOf s)) e in
+    let sums = and-right (textsLawful s && between 1 2 (sideOf s)) (sumsLawful s) (and-left (textsLawful s && between 1 2 (sideOf s) && sumsLawful s) (leb (priceOf s) 99999999999) front) in
+    let three = and-left (leb 1 (sharesOf s) && leb (sharesOf s) (cumOf s) && leb (cumOf s) (quantityOf s)) (leb (quantityOf s) 999999) sums in
+    let two = and-left (leb 1 (sharesOf s) && leb (sharesOf s) (cumOf s)) (leb (cumOf s) (quantityOf s)) three in
+    record {
+      some = leb-true 1 (sharesOf s) (and-left (leb 1 (sharesOf s)) (leb (sharesOf s) (cumOf s)) two);
+      cum = leb-true (sharesOf s) (cumOf s) (and-right (leb 1 (sharesOf s)) (leb (sharesOf s) (cumOf s)) two);
+      quantity = leb-true (cumOf s) (quantityOf s) (and-right (leb 1 (sharesOf s) && leb (sharesOf s) (cumOf s)) (leb (cumOf s) (quantityOf s)) three);
+      most = leb-true (quantityOf s) 999999 (and-right (leb 1 (sharesOf s) && leb (sharesOf s) (cumOf s) && leb (cumOf s) (quantityOf s)) (leb (quantityOf s) 999999) sums);
+    }
 
 module _ (v : List ℕ) (k : Check) (e : k ≡ timeChecked v) where
   pub time-yes : k ≡ Good → true ≡ isTime v

@@ -1,5 +1,5 @@
 -- A fill's line of the listing: how it is written word by word, and how long it is.
---     line-short     a line has at most 128 bytes
+--     line-short     a line has at most lineRoom bytes, 128
 use mathlib.Core.Path.{_≡_, refl, ap, _∙_}
 use mathlib.Core.List.{List, [], _∷_, _++_}
 use mathlib.Core.Logic.{⊎-elim}
@@ -22,7 +22,7 @@ use Rattle.text.specs.Writing.{puts, held, empty}
 use Rattle.text.proofs.Decimals.{decimal-length, fixed-length}
 use Rattle.text.proofs.Puts.{puts-puts, held-short}
 use Rattle.text.specs.declared.Text.{Text}
-use Rattle.fill.specs.Slot.{Slot, execOf, orderOf, symbolOf, sideOf, sharesOf, priceOf, timeOf, lineOf}
+use Rattle.fill.specs.Slot.{Slot, widthOf, placeOf, lineRoom, execOf, orderOf, symbolOf, sideOf, sharesOf, priceOf, timeOf, lineOf}
 
 -- a space and a word more
 pub word-put : (t x y : Text) (w v : List ℕ) → x ≡ puts t (bytesOf " ") → w ≡ v → y ≡ puts x (take (length w) w) → y ≡ puts t (bytesOf " " ++ v)
@@ -33,7 +33,7 @@ word-put t x y w v ex ew ey =
     ∙ puts-puts t (bytesOf " ") v
 
 pub time-cut : (s : Slot) → take 21 (timeOf s) ≡ timeOf s
-time-cut s = take-take 21 21 (drop 73 s) (omega arith)
+time-cut s = take-take 21 21 (drop (placeOf 8) s) (omega arith)
 
 -- ---- how long
 text-most : (width : ℕ) (f : List ℕ) → length f ≤ suc width → length (textOf f) ≤ width
@@ -53,13 +53,13 @@ line-by : (n : ℕ) (s : Slot) → n < 256 ^ 4 → sideOf s < 256 → sharesOf s
 unfolding lineOf
 line-by n s hn hs hq hp =
     let a = decimal-length 9 n (omega arith) in
-    let b = text-most 20 (execOf s) (field-most 1 21 s) in
-    let d = text-most 20 (orderOf s) (field-most 22 21 s) in
-    let e = text-most 8 (symbolOf s) (field-most 43 9 s) in
+    let b = text-most 20 (execOf s) (field-most (placeOf 0) (widthOf 0) s) in
+    let d = text-most 20 (orderOf s) (field-most (placeOf 1) (widthOf 1) s) in
+    let e = text-most 8 (symbolOf s) (field-most (placeOf 2) (widthOf 2) s) in
     let f = decimal-length 2 (sideOf s) (omega arith) in
     let g = decimal-length 9 (sharesOf s) (omega arith) in
     let h = price-most (priceOf s) hp in
-    let i = field-most 73 21 s in
+    let i = field-most (placeOf 8) (widthOf 8) s in
     simp length-append (omega arith)
 
 -- numbers of bytes fit
@@ -79,19 +79,19 @@ unfolding numberIn
 number-most at n s h =
     below-pow 256 n (lit< tt) (value-below 256 0 (lit< tt) 255 (lit< tt) (part at n s) (bytes-in (part at n s) (bytes-part at n s h))) (field-most at n s)
 
--- a line has at most 128 bytes, whatever the bytes of the slot
-pub line-short : (n : ℕ) (s : Slot) → n < 256 ^ 4 → ((i : ℕ) → getD s i 0 < 256) → length (lineOf n s) ≤ 128
+-- a line has at most lineRoom bytes, 128, whatever the bytes of the slot
+pub line-short : (n : ℕ) (s : Slot) → n < 256 ^ 4 → ((i : ℕ) → getD s i 0 < 256) → length (lineOf n s) ≤ lineRoom
 line-short n s h b =
-    let e = line-by n s h (omega (arith, number-most 52 1 s b)) (number-most 57 4 s b) (number-most 61 8 s b) in
+    let e = line-by n s h (omega (arith, number-most (placeOf 3) (widthOf 3) s b)) (number-most (placeOf 5) (widthOf 5) s b) (number-most (placeOf 6) (widthOf 6) s b) in
     omega arith
 
 -- so a text holds it whole
-pub line-held : (n : ℕ) (s : Slot) → length (lineOf n s) ≤ 128 → held (puts empty (lineOf n s)) ≡ lineOf n s
+pub line-held : (n : ℕ) (s : Slot) → length (lineOf n s) ≤ lineRoom → held (puts empty (lineOf n s)) ≡ lineOf n s
 line-held n s h = held-short (lineOf n s) (omega arith)
 
 pub line-placed : (n : ℕ) (s : Slot) (line : List ℕ) (t : Text) (line′ : List ℕ) (r : ℕ) → n < 256 ^ 4 → ((i : ℕ) → getD s i 0 < 256) → t ≡ puts empty (lineOf n s)
     → line′ ≡ splice line 0 (held t) → r ≡ cond (fitsAt line 0 (held t)) (0 + length (held t)) 0
-    → (line′ ≡ splice line 0 (lineOf n s)) × ((r ≡ cond (fitsAt line 0 (lineOf n s)) (length (lineOf n s)) 0) × (length (lineOf n s) ≤ 128))
+    → (line′ ≡ splice line 0 (lineOf n s)) × ((r ≡ cond (fitsAt line 0 (lineOf n s)) (length (lineOf n s)) 0) × (length (lineOf n s) ≤ lineRoom))
 line-placed n s line t line′ r hn hs et el er =
     let h = line-short n s hn hs in
     let e : held t ≡ lineOf n s = ap held et ∙ line-held n s h in (

@@ -85,8 +85,12 @@ isFill s = eqb (getD s 0 0) fillMark
 
 -- ---- the parts of a slot
 
+-- where part i stands: after the byte that says fill, one after another
+abbrev pub placeOf : ℕ → ℕ
+placeOf i = 1 + sumOf (take i widths)
+
 abbrev pub field : ℕ → Slot → List ℕ
-field i s = part (1 + sumOf (take i widths)) (widthOf i) s
+field i s = part (placeOf i) (widthOf i) s
 
 abbrev pub execOf : Slot → List ℕ
 execOf s = field 0 s
@@ -136,6 +140,10 @@ abbrev pub spaced : List (List ℕ) → List ℕ
 spaced [] = []
 spaced (w ∷ []) = w
 spaced (w ∷ v ∷ ws) = w ++ bytesOf " " ++ spaced (v ∷ ws)
+
+-- no line of a slot of bytes has more: "line buffer under 128 bytes"
+abbrev pub lineRoom : ℕ
+lineRoom = 128
 
 abbrev pub lineFeed : List ℕ
 lineFeed = 10 ∷ []

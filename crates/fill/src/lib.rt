@@ -10,7 +10,7 @@ ghost use Rattle.octet.specs.Padded.{textOf};
 ghost use Rattle.value.specs.Value.{isTime};
 ghost use Rattle.text.specs.Decimal.{decimal, priceText};
 ghost use Rattle.text.specs.Writing.{empty, puts};
-ghost use Rattle.fill.specs.Slot.{fillOf, textField, timeField, bodyOf, slotOf, isFill, execOf, orderOf, symbolOf, sideOf, quantityOf, sharesOf, priceOf, cumOf, timeOf, textLawful, textsLawful, sumsLawful, slotLawful, spaced, lineOf};
+ghost use Rattle.fill.specs.Slot.{fillOf, widthOf, textField, timeField, bodyOf, slotOf, isFill, execOf, orderOf, symbolOf, sideOf, quantityOf, sharesOf, priceOf, cumOf, timeOf, textLawful, textsLawful, sumsLawful, slotLawful, spaced, lineRoom, lineOf};
 use octet::part;
 use text::Text;
 use value::Check;
@@ -122,7 +122,7 @@ fn put_text(dst: &mut [u8], at: usize, width: usize, t: &[u8])
 
 // "The time has no length byte; one of 17 bytes gets .000".
 fn time_field(t: &[u8]) -> [u8; TIME]
-    ensures { λ r. ⌜ r ≡ timeField 21 (now (t .entry)) ⌝ }
+    ensures { λ r. ⌜ r ≡ timeField (widthOf 8) (now (t .entry)) ⌝ }
 {
     let mut field = [0u8; TIME];
     octet::copy_into(&mut field, 0, part(t, 0, TIME));
@@ -283,7 +283,7 @@ fn line_text(n: u32, s: &[u8]) -> Text
 pub fn write_line(n: u32, s: &[u8], line: &mut [u8]) -> usize
     ensures { λ r. ⌜ now (line .exit) ≡ splice (now (line .entry)) 0 (lineOf n (now (s .entry))) ⌝ }
     ensures { λ r. ⌜ r ≡ cond (fitsAt (now (line .entry)) 0 (lineOf n (now (s .entry)))) (length (lineOf n (now (s .entry)))) 0 ⌝ }
-    ensures { λ r. ⌜ length (lineOf n (now (s .entry))) ≤ 128 ⌝ }
+    ensures { λ r. ⌜ length (lineOf n (now (s .entry))) ≤ lineRoom ⌝ }
 {
     line_text(n, s).place(line, 0)
 }

@@ -1,3 +1,4 @@
+use Rattle.fill.specs.Slot.{slotWidth, mostFills}
 use mathlib.Core.Path.{sym, _∙_}
 use native.Mathlib.Omega.{arith}
 use denote.Ref.{now}
@@ -15,21 +16,21 @@ use Rattle.book.proofs.append.Tie as tie
 returns : tie.Need-returns
 returns c =
     let a = c .before .before .args in
-    let e = and-no-left (ltb (a .count) 512) (eqb (length (now (a .slot))) 94) (le-ltb (a .count) 512 (omega arith)) in
+    let e = and-no-left (ltb (a .count) mostFills) (eqb (length (now (a .slot))) slotWidth) (le-ltb (a .count) mostFills (omega arith)) in
     (sym e, sym (appended-out (now (a .book)) (a .count) (now (a .slot)) e))
 
 returns-2 : tie.Need-returns-2
 returns-2 c =
     let a = c .before .before .before .args in
-    let e = and-no-right (ltb (a .count) 512) (eqb (length (now (a .slot))) 94) (ne-eqb _ _ (c .if2 .taken)) in
+    let e = and-no-right (ltb (a .count) mostFills) (eqb (length (now (a .slot))) slotWidth) (ne-eqb _ _ (c .if2 .taken)) in
     (sym e, sym (appended-out (now (a .book)) (a .count) (now (a .slot)) e))
 
 returns-3 : tie.Need-returns-3
 returns-3 c =
     let a = c .before .before .before .before .before .args in
     let n = c .before .before .if2 .left in
-    let f = fits-true (now (a .book)) (a .count * 94) (now (a .slot)) (omega arith) in
-    (c .copy-into .ensures .0 ∙ f ∙ sym (and-make (ltb (a .count) 512) (eqb (length (now (a .slot))) 94) (lt-ltb (a .count) 512 (omega arith)) (eq-eqb _ _ n)), c .copy-into .ensures .1 ∙ sym (appended-in (now (a .book)) (a .count) (now (a .slot)) (omega arith) n))
+    let f = fits-true (now (a .book)) (a .count * slotWidth) (now (a .slot)) (omega arith) in
+    (c .copy-into .ensures .0 ∙ f ∙ sym (and-make (ltb (a .count) mostFills) (eqb (length (now (a .slot))) slotWidth) (lt-ltb (a .count) mostFills (omega arith)) (eq-eqb _ _ n)), c .copy-into .ensures .1 ∙ sym (appended-in (now (a .book)) (a .count) (now (a .slot)) (omega arith) n))
 
 pub append-spec : {M : Type 1} → statement M
 append-spec = tie.close (tie.spec returns returns-2 (λ c. search needs) (λ c κs. search needs) returns-3)

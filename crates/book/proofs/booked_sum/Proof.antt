@@ -1,3 +1,4 @@
+use Rattle.book.specs.Known.{orderAt}
 use mathlib.Core.Path.{sym, ap, _∙_}
 use mathlib.Core.Bool.{Bool}
 use native.Mathlib.Omega.{arith}
@@ -15,7 +16,7 @@ returns c =
     let a = c .before .before .before .before .before .args in
     let m = now (a .book) in
     let s = now (a .slot) in (
-      id-sum 22 _ (orderOf s) m _ (a .count) (c .before .order-of .ensures) (c .before .before .inside .ensures) (omega arith) _ (c .sum-in .ensures .0)
+      id-sum orderAt _ (orderOf s) m _ (a .count) (c .before .order-of .ensures) (c .before .before .inside .ensures) (omega arith) _ (c .sum-in .ensures .0)
           ∙ ap (λ (p : Slot → Bool). sumWhere p (slotsIn (a .count) m)) (sym (order-pred s)),
       c .sum-in .ensures .1,
     )

@@ -1,3 +1,4 @@
+use Rattle.fill.specs.Slot.{slotWidth}
 use mathlib.Core.Path.{sym, _∙_}
 use native.Mathlib.Omega.{arith}
 use denote.Ref.{now}
@@ -10,7 +11,7 @@ use Rattle.book.proofs.slot_at.Tie as tie
 returns : tie.Need-returns
 returns c =
     let a = c .before .before .before .args in
-    c .part .ensures ∙ sym (part-past (a .i * 94) 94 (now (a .book)) (omega arith))
+    c .part .ensures ∙ sym (part-past (a .i * slotWidth) slotWidth (now (a .book)) (omega arith))
 
 pub slot-at-spec : {M : Type 1} → statement M
 slot-at-spec = tie.close (tie.spec (λ c κs. search needs) returns (λ c. search needs) (λ c κs. search needs) (λ c. search needs))

@@ -1,3 +1,4 @@
+use Rattle.book.specs.Known.{execAt}
 use mathlib.Core.Path.{sym, ap, _∙_}
 use mathlib.Core.Bool.{Bool}
 use native.Mathlib.Omega.{arith}
@@ -15,7 +16,7 @@ returns c =
     let a = c .before .before .before .before .before .args in
     let m = now (a .book) in
     let s = now (a .slot) in
-    id-search 1 _ (execOf s) m _ (a .count) (c .before .exec-of .ensures) (c .before .before .inside .ensures) (omega arith) _ (c .find-slot .ensures)
+    id-search execAt _ (execOf s) m _ (a .count) (c .before .exec-of .ensures) (c .before .before .inside .ensures) (omega arith) _ (c .find-slot .ensures)
     ∙ ap (λ (p : Slot → Bool). find p (slotsIn (a .count) m)) (sym (exec-pred s))
 
 pub with-exec-spec : {M : Type 1} → statement M

@@ -1,3 +1,4 @@
+use Rattle.book.specs.Known.{orderAt}
 use mathlib.Core.Path.{sym, ap, _∙_}
 use mathlib.Core.Bool.{Bool}
 use native.Mathlib.Omega.{arith}
@@ -15,7 +16,7 @@ returns c =
     let a = c .before .before .before .before .before .args in
     let m = now (a .book) in
     let s = now (a .slot) in
-    id-search 22 _ (orderOf s) m _ (a .count) (c .before .order-of .ensures) (c .before .before .inside .ensures) (omega arith) _ (c .find-slot .ensures)
+    id-search orderAt _ (orderOf s) m _ (a .count) (c .before .order-of .ensures) (c .before .before .inside .ensures) (omega arith) _ (c .find-slot .ensures)
     ∙ ap (λ (p : Slot → Bool). find p (slotsIn (a .count) m)) (sym (order-pred s))
 
 pub with-order-spec : {M : Type 1} → statement M
