@@ -27,6 +27,9 @@ const MARKS: usize = 5;
 
 const CLEARS: usize = 1;
 
+// A note buffer has room for the longest note.
+pub const LONGEST: usize = BOOKS;
+
 // "S: E 4, O 4".
 fn read_leaves(body: &[u8]) -> Read
     ensures { λ r. ⌜ r ≡ told (readBody 83 (now (body .entry))) ⌝ }

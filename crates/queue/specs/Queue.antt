@@ -9,7 +9,6 @@ use Rattle.octet.specs.Maybe.{first}
 use Rattle.octet.specs.Splice.{splice}
 use Rattle.fill.specs.Slot.{Slot, lineOf}
 use Rattle.note.specs.Notes.{Marks as MarksNote, noteBytes, longestNote}
-use Rattle.answer.specs.declared.Refusal.{Refusal}
 use Rattle.answer.specs.declared.Refusal.the-variants as refusal
 use Rattle.queue.specs.declared.Marks.{Marks}
 use Rattle.queue.specs.declared.Offer.{Offer}

@@ -1,5 +1,10 @@
 // The queue to the ledger host: offer, begin-again, acknowledge, new day. Marks by value, the fills in the lent book.
+ghost use mathlib.Core.Path.{_≡_};
+ghost use lib.ListN.{length};
+ghost use Rattle.book.specs.Memory.{slotsIn};
+ghost use Rattle.queue.specs.Queue.{offeredUpTo, ackedUpTo, offered, lineAfter, begunAgain, acknowledgedBy, noteAfter, newDay};
 use answer::Refusal;
+use fill::BOOK;
 
 // How many fills and orders the day has, and the marks: the last fill acknowledged, and the last offered.
 pub struct Marks {
@@ -25,4 +30,88 @@ pub enum Acknowledged {
 pub enum Day {
     Fresh(Marks),
     Refused(Refusal),
+}
+
+// "line buffer under 128 bytes".
+const LINE: usize = 128;
+
+impl Marks {
+    // One mark moved.
+    fn offered_up_to(self, n: u32) -> Marks
+        ensures { λ r. ⌜ r ≡ offeredUpTo n self ⌝ }
+    {
+        Marks {
+            fills: self.fills,
+            orders: self.orders,
+            acked: self.acked,
+            offered: n,
+        }
+    }
+
+    fn acked_up_to(self, n: u32) -> Marks
+        ensures { λ r. ⌜ r ≡ ackedUpTo n self ⌝ }
+    {
+        Marks {
+            fills: self.fills,
+            orders: self.orders,
+            acked: n,
+            offered: self.offered,
+        }
+    }
+
+    // "Offer writes the fill after the last offered one as its line of the listing .., or, only where there is no such fill,
+    // says none." Only the offered mark moves.
+    pub fn offer(self, book: &[u8; BOOK], line: &mut [u8]) -> Offer
+        ensures { λ r. ⌜ (r ≡ offered self (slotsIn (self .fills) (now (book .entry))) (length (now (line .entry)))) × (now (line .exit) ≡ lineAfter self (slotsIn (self .fills) (now (book .entry))) (now (line .entry))) ⌝ }
+    {
+        if line.len() < LINE {
+            return Offer::Refused(Refusal::ShortBuffer);
+        }
+        if self.fills <= self.offered {
+            return Offer::Nothing;
+        }
+        let next = self.offered + 1;
+        let len = fill::write_line(next, book::slot_at(book, self.offered as usize), line);
+        Offer::Given(self.offered_up_to(next), len)
+    }
+
+    // "Begin-again sets the offered mark back to the acknowledged one."
+    pub fn begin_again(self) -> Marks
+        ensures { λ r. ⌜ r ≡ begunAgain self ⌝ }
+    {
+        self.offered_up_to(self.acked)
+    }
+
+    // "Acknowledge n takes all fills up to n; n at or below the mark is already, no change." It is refused above the offered
+    // mark. The fills stay where they are.
+    pub fn acknowledge(self, book: &mut [u8; BOOK], n: u32, note: &mut [u8]) -> Acknowledged
+        ensures { λ r. ⌜ (r ≡ acknowledgedBy self n (length (now (note .entry)))) × (now (book .exit) ≡ now (book .entry)) × (now (note .exit) ≡ noteAfter self n (now (note .entry))) ⌝ }
+    {
+        if note.len() < note::LONGEST {
+            return Acknowledged::Refused(Refusal::ShortBuffer);
+        }
+        if self.offered < n {
+            return Acknowledged::Refused(Refusal::NotOffered);
+        }
+        if n <= self.acked {
+            return Acknowledged::Already;
+        }
+        note::put_marks(note, n);
+        Acknowledged::Taken(self.acked_up_to(n))
+    }
+
+    // "New day (.. nothing waiting) gives the fresh, empty state." What is in the lent book is then of no fill.
+    pub fn new_day(self, book: &mut [u8; BOOK]) -> Day
+        ensures { λ r. ⌜ (r ≡ newDay self) × (now (book .exit) ≡ now (book .entry)) ⌝ }
+    {
+        if self.acked < self.fills {
+            return Day::Refused(Refusal::StillWaiting);
+        }
+        Day::Fresh(Marks {
+            fills: 0,
+            orders: 0,
+            acked: 0,
+            offered: 0,
+        })
+    }
 }

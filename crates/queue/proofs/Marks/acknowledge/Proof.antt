@@ -1,0 +1,55 @@
+-- `queue::Marks::acknowledge` meets its contract, case by case. The lent book is not touched.
+use borrow.Author.Needs.{needs}
+use mathlib.Core.Path.{refl, ap, _∙_}
+use Prim.Native.Nat.{_-_}
+use native.Mathlib.Omega.{arith}
+use denote.Ref.{now}
+use Rattle.queue.specs.declared.Marks.{Marks}
+use Rattle.queue.specs.declared.Acknowledged.the-variants as acknowledged
+use Rattle.queue.proofs.Offering.{ack-short, ack-above, ack-already, ack-taken}
+use Rattle.queue.proofs.Marks.acknowledge.Statement.{statement}
+use Rattle.queue.proofs.Marks.acknowledge.Tie as tie
+
+returns : tie.Need-returns
+returns c =
+    let a = c .before .before .args in
+    let s = a .self in
+    let d = now (a .note) in
+    let g = ack-short s (a .n) d (omega arith) in
+    (g .0, refl, g .1)
+
+returns-2 : tie.Need-returns-2
+returns-2 c =
+    let a = c .before .before .before .before .args in
+    let s = a .self in
+    let d = now (a .note) in
+    let g = ack-above s (a .n) d (omega arith) (omega arith) in
+    (g .0, refl, g .1)
+
+returns-3 : tie.Need-returns-3
+returns-3 c =
+    let a = c .before .before .before .before .before .before .args in
+    let s = a .self in
+    let d = now (a .note) in
+    let g = ack-already s (a .n) d (omega arith) (omega arith) (omega arith) in
+    (g .0, refl, g .1)
+
+returns-4 : tie.Need-returns-4
+returns-4 c =
+    let a = c .before .before .before .before .before .before .before .before .before .before .before .args in
+    let s = a .self in
+    let d = now (a .note) in
+    let g = ack-taken s (a .n) d (omega arith) (omega arith) (omega arith) in
+    (ap acknowledged.Taken (c .acked-up-to .ensures) ∙ g .0, refl, c .before .before .before .put-marks .ensures .1 ∙ g .1)
+
+pub acknowledge-spec : {M : Type 1} → statement M
+acknowledge-spec =
+    tie.close
+    (tie.spec
+    returns
+    returns-2
+    returns-3
+    (λ c κs. search needs)
+    (λ c κs. search needs)
+    (λ c. search needs)
+    returns-4)

@@ -1,0 +1,43 @@
+-- `queue::Marks::offer` meets its contract: refused, none, or the next slot of the lent book as its line.
+use borrow.Author.Needs.{needs}
+use mathlib.Core.Path.{ap, _∙_}
+use Prim.Native.Nat.{_-_}
+use native.Mathlib.Omega.{arith}
+use denote.Ref.{now}
+use Rattle.book.specs.Memory.{slotsIn}
+use Rattle.queue.specs.declared.Marks.{Marks}
+use Rattle.queue.specs.declared.Offer.the-variants as offer
+use Rattle.queue.proofs.Offering.{offer-short, offer-past, offer-next}
+use Rattle.queue.proofs.Marks.offer.Statement.{statement}
+use Rattle.queue.proofs.Marks.offer.Tie as tie
+
+returns : tie.Need-returns
+returns c =
+    let a = c .before .before .args in
+    offer-short (a .self) (slotsIn (a .self .fills) (now (a .book))) (now (a .line)) (omega arith)
+
+returns-2 : tie.Need-returns-2
+returns-2 c =
+    let a = c .before .before .before .before .args in
+    offer-past (a .self) (now (a .book)) (now (a .line)) (omega arith) (omega arith)
+
+returns-3 : tie.Need-returns-3
+returns-3 c =
+    let a = c .before .before .before .before .before .before .before .before .before .before .before .before .args in
+    let w = c .before .before .before .write-line in
+    let g = offer-next (a .self) (now (a .book)) (now (a .line)) _ _ _ (omega arith) (omega arith) (c .before .before .before .before .before .slot-at .ensures) (w .ensures .0) (w .ensures .1 .0) (w .ensures .1 .1) in
+    (ap (λ (m : Marks). offer.Given m (w .result)) (c .offered-up-to .ensures) ∙ g .0, g .1)
+
+pub offer-spec : {M : Type 1} → statement M
+offer-spec =
+    tie.close
+    (tie.spec
+    returns
+    returns-2
+    (λ c. search needs)
+    (λ c. search needs)
+    (λ c κs. search needs)
+    (λ c κs. search needs)
+    (λ c κs. search needs)
+    (λ c. search needs)
+    returns-3)
