@@ -7,7 +7,7 @@ use Rattle.answer.specs.declared.Outcome.{Outcome}
 pub new-once : {r r′ : Tally} → r ≡ none-yet → r′ ≡ none-yet → r ≡ r′
 new-once p q = p ∙ sym q
 
--- the four counts: one_booked, one_already, one_rejected, one_garbled
+-- the four counts, by value (one_booked, one_already, one_rejected, one_garbled) and lent (count_booked, count_already, count_rejected, count_garbled: r is the tally at exit, t at entry)
 pub count-once : (count : Tally → Tally) (t : Tally) {r r′ : Tally} → r ≡ count t → r′ ≡ count t → r ≡ r′
 count-once count t p q = p ∙ sym q
 

@@ -94,3 +94,28 @@ impl Tally {
         }
     }
 }
+
+// "lent by the caller and brought up to date": one thin function for each answer that counts, over the sister that takes the tally by value.
+pub fn count_booked(t: &mut Tally)
+    ensures { λ _. ⌜ now (t .exit) ≡ oneBooked (now (t .entry)) ⌝ }
+{
+    *t = (*t).one_booked();
+}
+
+pub fn count_already(t: &mut Tally)
+    ensures { λ _. ⌜ now (t .exit) ≡ oneAlready (now (t .entry)) ⌝ }
+{
+    *t = (*t).one_already();
+}
+
+pub fn count_rejected(t: &mut Tally)
+    ensures { λ _. ⌜ now (t .exit) ≡ oneRejected (now (t .entry)) ⌝ }
+{
+    *t = (*t).one_rejected();
+}
+
+pub fn count_garbled(t: &mut Tally)
+    ensures { λ _. ⌜ now (t .exit) ≡ oneGarbled (now (t .entry)) ⌝ }
+{
+    *t = (*t).one_garbled();
+}
