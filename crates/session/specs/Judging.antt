@@ -126,8 +126,11 @@ abbrev pub rejected : Session → ℕ → Fault → Judged
 rejected s n f = rejectedTo (raised s) n f
 
 -- "A rejected type 4 in reset mode leaves E"
-unfoldable pub rejectedBy : Session → ℕ → Facts → Fault → Judged
-rejectedBy s n m f = cond (resetMode m) (rejectedTo s n f) (rejected s n f)
+unfoldable pub rejectedIf : Bool → Session → ℕ → Fault → Judged
+rejectedIf reset s n f = cond reset (rejectedTo s n f) (rejected s n f)
+
+abbrev pub rejectedBy : Session → ℕ → Facts → Fault → Judged
+rejectedBy s n m f = rejectedIf (resetMode m) s n f
 
 -- nothing is written, and E rises by 1
 abbrev pub passed : Outcome → Session → Judged
@@ -137,15 +140,21 @@ abbrev pub heard : Session → Judged
 heard s = passed Heard s
 
 -- "36 the smaller of O and tag 16 plus 1 (O for 16=0)"
-unfoldable pub gapFill : Session → Facts → Say
-gapFill s m = say.GapFill (m .from) (cond (eqb (m .upTo) 0) (s .o) (min (s .o) (m .upTo + 1)))
+unfoldable pub filledTo : ℕ → ℕ → ℕ
+filledTo o upTo = cond (eqb upTo 0) o (min o (upTo + 1))
+
+abbrev pub gapFill : Session → Facts → Say
+gapFill s m = say.GapFill (m .from) (filledTo (s .o) (m .upTo))
 
 -- "Type 4 with 36 above E answers with 36 less the old E. At or below E it is Reject 5 tag 36, except equal to E in reset mode: heard, E stays."
-unfoldable pub moved : Session → ℕ → Facts → Judged
-moved s n m =
-    cond (ltb (s .e) (m .to)) (judged (Moved (m .to - s .e)) Nothing (expecting (m .to) s))
-    (cond (eqb (m .to) (s .e) && resetMode m) (judged Heard Nothing s)
-    (rejectedBy s n m (fault 5 36)))
+unfoldable pub movedTo : ℕ → Bool → Session → ℕ → Judged
+movedTo to reset s n =
+    cond (ltb (s .e) to) (judged (Moved (to - s .e)) Nothing (expecting to s))
+    (cond (eqb to (s .e) && reset) (judged Heard Nothing s)
+    (rejectedIf reset s n (fault 5 36)))
+
+abbrev pub moved : Session → ℕ → Facts → Judged
+moved s n m = movedTo (m .to) (resetMode m) s n
 
 -- "Logout in phase 2, none in 4; ended"
 unfoldable pub loggedOut : Session → Judged
@@ -170,27 +179,33 @@ inTurn s n m none = effect s n m (m .kind)
 -- ---- step 4: in 2 or 4
 
 -- "below E: with `43=Y` dropped, else Logout, ended"
+abbrev pub belowIf : Bool → Session → Judged
+belowIf again s = cond again (judged Dropped Nothing s) (ended s)
+
 abbrev pub below : Session → Facts → Judged
-below s m = cond (m .again) (judged Dropped Nothing s) (ended s)
+below s m = belowIf (m .again) s
 
 -- "unless one was written for this same E and the message neither has `43=Y` nor is a Heartbeat"
+unfoldable pub dueBy : Session → Bool → Kind → Bool
+dueBy s again k = not (eqb (s .asked) (s .e)) || again || isKind k kind.Heartbeat
+
 abbrev pub due : Session → Facts → Bool
-due s m = not (eqb (s .asked) (s .e)) || m .again || isKind (m .kind) kind.Heartbeat
+due s m = dueBy s (m .again) (m .kind)
 
 -- "A faultless Resend Request above E is answered first"
 abbrev pub answered : Facts → Bool
 answered m = isKind (m .kind) kind.Resend && isNone (m .fault)
 
 -- our request, and before it the gap fill
-abbrev pub gapReply : Session → Facts → Bool → Bool → Reply
-gapReply s m true true = Two (gapFill s m) (say.Resend (s .e))
-gapReply s m true false = One (gapFill s m)
-gapReply s m false true = One (say.Resend (s .e))
-gapReply s m false false = Nothing
+abbrev pub gapReply : Session → Say → Bool → Bool → Reply
+gapReply s fill true true = Two fill (say.Resend (s .e))
+gapReply s fill true false = One fill
+gapReply s fill false true = One (say.Resend (s .e))
+gapReply s fill false false = Nothing
 
 -- "Above E: a gap, not applied, answered by a Resend Request (7=E, 16=0)"
 unfoldable pub gap : Session → Facts → Judged
-gap s m = judged Gap (gapReply s m (answered m) (due s m)) (cond (due s m) (asking s) s)
+gap s m = judged Gap (gapReply s (gapFill s m) (answered m) (due s m)) (cond (due s m) (asking s) s)
 
 -- "type 4 without `123=Y` ignores its number"
 unfoldable pub step4 : Session → ℕ → Facts → Verdict

@@ -1,8 +1,35 @@
 // The session: phase, E and O by value, our own calls, and the judging of a framed message in the paper's order. It knows no book.
 use answer::Fault;
+use answer::Id;
+use answer::Kind;
 use answer::Outcome;
 use answer::Phase;
+use answer::Setup;
+use field::Index;
+use field::TAGS;
+use table::Judgement;
+use value::Number;
 use wire::Reply;
+use wire::Say;
+ghost use mathlib.Core.Path.{_≡_};
+ghost use mathlib.Core.Bool.{true, false, cond, _&&_, not};
+ghost use mathlib.Core.Option.{some};
+ghost use Rattle.octet.specs.Bytes.{same};
+ghost use Rattle.octet.specs.Maybe.{isNone};
+ghost use Rattle.field.specs.Index.{valueIn};
+ghost use Rattle.table.specs.Rows.{kindOf};
+ghost use Rattle.table.specs.Indexed.{numberIn, faultBy};
+ghost use Rattle.field.specs.Pieces.{isThat};
+ghost use Rattle.table.specs.Steps.{faultOf};
+ghost use Rattle.answer.specs.Setup.{idOf};
+ghost use Rattle.answer.specs.Numbers.{fault, counted, kindNumber, isKind};
+ghost use Rattle.answer.specs.declared.Kind.the-variants as kinds;
+ghost use Rattle.answer.specs.declared.Outcome.the-variants as outcome;
+ghost use Rattle.wire.specs.declared.Say.the-variants as say;
+ghost use Rattle.session.specs.declared.Own.the-variants as own;
+ghost use Rattle.session.specs.Session.{fresh, into, expecting, asking, raised, sending, judged, isOff, isOn, isIn, says, mayCall, ownCall, lineLost};
+ghost use Rattle.session.specs.Judging.{numberIf, seqGiven, idsGiven, yes, ended, rejectedEnded, welcomed, step3, rejectedTo, rejected, rejectedIf, passed, filledTo, movedTo, loggedOut, effect, inTurn, belowIf, dueBy, gapReply, gap, step4, byPhase, judgedBy, echoes, wordTag};
+ghost use Rattle.session.specs.Indexed.{fieldIn, fieldBy, kindBy, factsBy};
 
 // The phase, the number expected, the next to send, and the E that a Resend Request was last written for (0 for none).
 pub struct Session {
@@ -31,4 +58,658 @@ pub struct Judged {
 pub enum Verdict {
     Settled(Judged),
     Report(u32),
+}
+
+// The last number of four bytes, where E and O stop. Refusal 4 and step 1 come long before.
+const LAST_NUMBER: u32 = 4294967295;
+
+// A number counted on.
+fn count_on(n: u32, k: u32) -> u32
+    ensures { λ r. ⌜ r ≡ counted n k ⌝ }
+{
+    if LAST_NUMBER - n < k {
+        LAST_NUMBER
+    } else {
+        n + k
+    }
+}
+
+// What each of our own calls says.
+pub fn says(what: Own) -> Say
+    ensures { λ r. ⌜ r ≡ says what ⌝ }
+{
+    match what {
+        Own::Open => Say::Logon,
+        Own::Beat => Say::Heartbeat,
+        Own::Ask => Say::Test,
+        Own::Close => Say::Logout,
+    }
+}
+
+// The session by value: each method hands back the next one.
+impl Session {
+    // "fresh: phase 0, E = O = 1".
+    pub fn fresh() -> Session
+        ensures { λ r. ⌜ r ≡ fresh ⌝ }
+    {
+        Session {
+            phase: Phase::Out,
+            e: 1,
+            o: 1,
+            asked: 0,
+        }
+    }
+
+    fn into(self, phase: Phase) -> Session
+        ensures { λ r. ⌜ r ≡ into phase self ⌝ }
+    {
+        Session {
+            phase,
+            e: self.e,
+            o: self.o,
+            asked: self.asked,
+        }
+    }
+
+    fn expecting(self, e: u32) -> Session
+        ensures { λ r. ⌜ r ≡ expecting e self ⌝ }
+    {
+        let phase = self.phase;
+        Session {
+            phase,
+            e,
+            o: self.o,
+            asked: self.asked,
+        }
+    }
+
+    // "raises E by 1".
+    fn raised(self) -> Session
+        ensures { λ r. ⌜ r ≡ raised self ⌝ }
+    {
+        self.expecting(count_on(self.e, 1))
+    }
+
+    // A Resend Request is written for this E.
+    fn asking(self) -> Session
+        ensures { λ r. ⌜ r ≡ asking self ⌝ }
+    {
+        let phase = self.phase;
+        Session {
+            phase,
+            e: self.e,
+            o: self.o,
+            asked: self.e,
+        }
+    }
+
+    // "every other message we write uses one".
+    fn sending(self, reply: Reply) -> Session
+        ensures { λ r. ⌜ r ≡ sending reply self ⌝ }
+    {
+        let phase = self.phase;
+        Session {
+            phase,
+            e: self.e,
+            o: count_on(self.o, wire::used_by(reply)),
+            asked: self.asked,
+        }
+    }
+
+    // Phase 0 or 3.
+    pub fn is_off(self) -> bool
+        ensures { λ r. ⌜ r ≡ isOff (self .phase) ⌝ }
+    {
+        let phase = self.phase;
+        match phase {
+            Phase::Out => true,
+            Phase::Sent => false,
+            Phase::In => false,
+            Phase::Ended => true,
+            Phase::Closing => false,
+        }
+    }
+
+    // "a message needs 1, 2 or 4".
+    pub fn is_on(self) -> bool
+        ensures { λ r. ⌜ r ≡ isOn (self .phase) ⌝ }
+    {
+        !self.is_off()
+    }
+
+    // Phase 2.
+    fn is_in(self) -> bool
+        ensures { λ r. ⌜ r ≡ isIn (self .phase) ⌝ }
+    {
+        let phase = self.phase;
+        match phase {
+            Phase::Out => false,
+            Phase::Sent => false,
+            Phase::In => true,
+            Phase::Ended => false,
+            Phase::Closing => false,
+        }
+    }
+
+    // "open (phase 0 or 3 ..), heartbeat, test request .., close .., the last three in phase 2".
+    pub fn may_call(self, what: Own) -> bool
+        ensures { λ r. ⌜ r ≡ mayCall what (self .phase) ⌝ }
+    {
+        match what {
+            Own::Open => self.is_off(),
+            Own::Beat => self.is_in(),
+            Own::Ask => self.is_in(),
+            Own::Close => self.is_in(),
+        }
+    }
+
+    // "open (phase 0 or 3; Logon with 98=0 and 108=30; phase 1)". "Each uses one O."
+    pub fn open(self) -> Session
+        ensures { λ r. ⌜ r ≡ ownCall own.Open self ⌝ }
+    {
+        self.into(Phase::Sent).sending(Reply::One(Say::Logon))
+    }
+
+    pub fn heartbeat(self) -> Session
+        ensures { λ r. ⌜ r ≡ ownCall own.Beat self ⌝ }
+    {
+        self.into(Phase::In).sending(Reply::One(Say::Heartbeat))
+    }
+
+    pub fn test_request(self) -> Session
+        ensures { λ r. ⌜ r ≡ ownCall own.Ask self ⌝ }
+    {
+        self.into(Phase::In).sending(Reply::One(Say::Test))
+    }
+
+    // "close (Logout; phase 4)".
+    pub fn close(self) -> Session
+        ensures { λ r. ⌜ r ≡ ownCall own.Close self ⌝ }
+    {
+        self.into(Phase::Closing).sending(Reply::One(Say::Logout))
+    }
+
+    // The session after one of our own calls.
+    pub fn own(self, what: Own) -> Session
+        ensures { λ r. ⌜ r ≡ ownCall what self ⌝ }
+    {
+        match what {
+            Own::Open => self.open(),
+            Own::Beat => self.heartbeat(),
+            Own::Ask => self.test_request(),
+            Own::Close => self.close(),
+        }
+    }
+
+    // "Line lost (phase 1, 2 or 4) gives phase 0 and writes nothing".
+    pub fn line_lost(self) -> Session
+        ensures { λ r. ⌜ r ≡ lineLost self ⌝ }
+    {
+        self.into(Phase::Out)
+    }
+
+    // What a message came to and what is written, with the session after it.
+    fn settled(self, outcome: Outcome, reply: Reply) -> Judged
+        ensures { λ r. ⌜ r ≡ judged outcome reply self ⌝ }
+    {
+        Judged {
+            outcome,
+            next: self.sending(reply),
+            reply,
+        }
+    }
+
+    // "Else Logout, ended".
+    fn ended(self) -> Judged
+        ensures { λ r. ⌜ r ≡ ended self ⌝ }
+    {
+        self.into(Phase::Ended)
+            .settled(Outcome::Ended, Reply::One(Say::Logout))
+    }
+
+    // "Reject .., then Logout, ended".
+    fn rejected_ended(self, n: u32, f: Fault) -> Judged
+        ensures { λ r. ⌜ r ≡ rejectedEnded self n f ⌝ }
+    {
+        self.into(Phase::Ended).settled(
+            Outcome::RejectedEnded(f),
+            Reply::Two(Say::Reject(n, f), Say::Logout),
+        )
+    }
+
+    fn rejected_to(self, n: u32, f: Fault) -> Judged
+        ensures { λ r. ⌜ r ≡ rejectedTo self n f ⌝ }
+    {
+        self.settled(Outcome::Rejected(f), Reply::One(Say::Reject(n, f)))
+    }
+
+    // "An in-order message raises E by 1, rejected ones included".
+    pub fn rejected(self, n: u32, f: Fault) -> Judged
+        ensures { λ r. ⌜ r ≡ rejected self n f ⌝ }
+    {
+        self.raised().rejected_to(n, f)
+    }
+
+    // "A rejected type 4 in reset mode leaves E".
+    fn rejected_if(self, reset: bool, n: u32, f: Fault) -> Judged
+        ensures { λ r. ⌜ r ≡ rejectedIf reset self n f ⌝ }
+    {
+        if reset {
+            self.rejected_to(n, f)
+        } else {
+            self.rejected(n, f)
+        }
+    }
+
+    // Nothing is written, and E rises by 1.
+    pub fn passed(self, outcome: Outcome) -> Judged
+        ensures { λ r. ⌜ r ≡ passed outcome self ⌝ }
+    {
+        self.raised().settled(outcome, Reply::Nothing)
+    }
+
+    // "Numbered E: E rises by 1. Above: E stays and a Resend Request follows. Both: phase 2."
+    fn welcomed(self, n: u32) -> Judged
+        ensures { λ r. ⌜ r ≡ welcomed self n ⌝ }
+    {
+        if n == self.e {
+            return self.raised()
+                .into(Phase::In)
+                .settled(Outcome::In, Reply::Nothing);
+        }
+        self.asking()
+            .into(Phase::In)
+            .settled(Outcome::In, Reply::One(Say::Resend(self.e)))
+    }
+
+    // "Type 4 with 36 above E answers with 36 less the old E. At or below E it is Reject 5 tag 36, except equal to E in reset mode: heard, E stays."
+    fn moved(self, to: u32, reset: bool, n: u32) -> Judged
+        ensures { λ r. ⌜ r ≡ movedTo to reset self n ⌝ }
+    {
+        let fault = Fault {
+            reason: 5,
+            tag: 36,
+            at: 0,
+        };
+        if self.e < to {
+            return self.expecting(to)
+                .settled(Outcome::Moved(to - self.e), Reply::Nothing);
+        }
+        if to != self.e {
+            return self.rejected_if(reset, n, fault);
+        }
+        if reset {
+            return self.settled(Outcome::Heard, Reply::Nothing);
+        }
+        self.rejected_if(reset, n, fault)
+    }
+
+    // "Logout in phase 2, none in 4; ended".
+    fn logged_out(self) -> Judged
+        ensures { λ r. ⌜ r ≡ loggedOut self ⌝ }
+    {
+        let next = self.raised().into(Phase::Ended);
+        if self.is_in() {
+            return next.settled(Outcome::Ended, Reply::One(Say::Logout));
+        }
+        next.settled(Outcome::Ended, Reply::Nothing)
+    }
+
+    // "below E: with `43=Y` dropped, else Logout, ended".
+    fn below(self, again: bool) -> Judged
+        ensures { λ r. ⌜ r ≡ belowIf again self ⌝ }
+    {
+        if again {
+            return self.settled(Outcome::Dropped, Reply::Nothing);
+        }
+        self.ended()
+    }
+
+    // "unless one was written for this same E and the message neither has `43=Y` nor is a Heartbeat".
+    fn is_due(self, again: bool, kind: Kind) -> bool
+        ensures { λ r. ⌜ r ≡ dueBy self again kind ⌝ }
+    {
+        if self.asked != self.e {
+            return true;
+        }
+        if again {
+            return true;
+        }
+        is_kind(kind, Kind::Heartbeat)
+    }
+}
+
+// Which row of the table a type has, to tell one from another.
+fn kind_number(k: Kind) -> u32
+    ensures { λ r. ⌜ r ≡ kindNumber k ⌝ }
+{
+    match k {
+        Kind::Logon => 0,
+        Kind::Heartbeat => 1,
+        Kind::Test => 2,
+        Kind::Resend => 3,
+        Kind::Reset => 4,
+        Kind::Logout => 5,
+        Kind::Report => 6,
+        Kind::Other => 7,
+        Kind::Unlisted => 8,
+    }
+}
+
+fn is_kind(a: Kind, b: Kind) -> bool
+    ensures { λ r. ⌜ r ≡ isKind a b ⌝ }
+{
+    kind_number(a) == kind_number(b)
+}
+
+// "36 the smaller of O and tag 16 plus 1 (O for 16=0)".
+fn filled_to(o: u32, last: u32) -> u32
+    ensures { λ r. ⌜ r ≡ filledTo o last ⌝ }
+{
+    if last == 0 {
+        return o;
+    }
+    if last < o { last + 1 } else { o }
+}
+
+// Whether an agreed ID is a value.
+fn is_id(id: Id, v: &[u8]) -> bool
+    ensures { λ r. ⌜ r ≡ same (idOf id) (now (v .entry)) ⌝ }
+{
+    let b = id.bytes;
+    octet::same(octet::part(&b, 0, id.len), v)
+}
+
+// ---- what the steps read off a message, by the lists of its body's index
+
+// Whether the first field of a tag is an agreed ID.
+fn has_id<'a>(
+    body: &[u8],
+    start: &'a [usize; TAGS],
+    len: &'a [usize; TAGS],
+    count: &'a [u8; TAGS],
+    tag: u32,
+    id: Id,
+) -> bool
+    ensures { λ r. ⌜ r ≡ isThat (idOf id) (fieldIn (now (body .entry)) (now (start .entry)) (now (len .entry)) (now (count .entry)) tag) ⌝ }
+{
+    if field::count_at(body, count, tag) == 0 {
+        return false;
+    }
+    is_id(id, field::value_at(body, start, len, tag))
+}
+
+// Whether the first field of a tag is Y.
+fn is_yes<'a>(
+    body: &[u8],
+    start: &'a [usize; TAGS],
+    len: &'a [usize; TAGS],
+    count: &'a [u8; TAGS],
+    tag: u32,
+) -> bool
+    ensures { λ r. ⌜ r ≡ yes (fieldIn (now (body .entry)) (now (start .entry)) (now (len .entry)) (now (count .entry)) tag) ⌝ }
+{
+    if field::count_at(body, count, tag) == 0 {
+        return false;
+    }
+    octet::same(b"Y", field::value_at(body, start, len, tag))
+}
+
+// Step 1: "The first `34=` field is 1 to 999,999,998, 1 to 9 digits".
+fn sequence<'a>(
+    body: &[u8],
+    start: &'a [usize; TAGS],
+    len: &'a [usize; TAGS],
+    count: &'a [u8; TAGS],
+) -> Number
+    ensures { λ r. ⌜ numberIf r ≡ seqGiven (fieldIn (now (body .entry)) (now (start .entry)) (now (len .entry)) (now (count .entry)) 34) ⌝ }
+{
+    if field::count_at(body, count, 34) == 0 {
+        return Number::OutOfRange;
+    }
+    value::read_number(field::value_at(body, start, len, 34), 1, 999_999_998)
+}
+
+// Step 2: "The first `49=` and then `56=` are the agreed IDs. Else Reject 9 naming that tag".
+fn ids_fault<'a>(
+    setup: Setup,
+    body: &[u8],
+    start: &'a [usize; TAGS],
+    len: &'a [usize; TAGS],
+    count: &'a [u8; TAGS],
+) -> Judgement
+    ensures { λ r. ⌜ faultOf r ≡ idsGiven setup (fieldIn (now (body .entry)) (now (start .entry)) (now (len .entry)) (now (count .entry)) 49) (fieldIn (now (body .entry)) (now (start .entry)) (now (len .entry)) (now (count .entry)) 56) ⌝ }
+{
+    let theirs = setup.theirs;
+    let ours = setup.ours;
+    if !has_id(body, start, len, count, 49, theirs) {
+        return wrong_id(49);
+    }
+    if !has_id(body, start, len, count, 56, ours) {
+        return wrong_id(56);
+    }
+    Judgement::Fine
+}
+
+fn wrong_id(tag: u32) -> Judgement
+    ensures { λ r. ⌜ faultOf r ≡ some (fault 9 tag) ⌝ }
+{
+    Judgement::Faulty(Fault {
+        reason: 9,
+        tag,
+        at: 0,
+    })
+}
+
+// The type of a message.
+fn kind_in<'a>(setup: Setup, body: &[u8], start: &'a [usize; TAGS], len: &'a [usize; TAGS]) -> Kind
+    ensures { λ r. ⌜ r ≡ kindOf setup (valueIn (now (body .entry)) (now (start .entry)) (now (len .entry)) 35) ⌝ }
+{
+    table::kind_of(setup, field::value_at(body, start, len, 35))
+}
+
+// "type 4 without `123=Y`": reset mode.
+fn is_reset(kind: Kind, body: &[u8], ix: Index) -> bool
+    ensures { λ r. ⌜ r ≡ isKind kind kinds.Reset && not (yes (fieldBy (now (body .entry)) ix 123)) ⌝ }
+{
+    if is_kind(kind, Kind::Reset) {
+        return !is_yes(body, &ix.start, &ix.len, &ix.count, 123);
+    }
+    false
+}
+
+// ---- the judging of a framed message, step by step
+
+impl Session {
+    // Step 3, in phase 1: "type A numbered E or more, else Logout, ended. Faulty by steps 5 to 7: Reject and Logout, ended."
+    fn judge_logon(self, n: u32, setup: Setup, body: &[u8], ix: Index) -> Judged
+        ensures { λ r. ⌜ r ≡ step3 self n (factsBy setup self (now (body .entry)) ix) ⌝ }
+    {
+        let kind = kind_in(setup, body, &ix.start, &ix.len);
+        if !is_kind(kind, Kind::Logon) {
+            return self.ended();
+        }
+        if n < self.e {
+            return self.ended();
+        }
+        let phase = self.phase;
+        match table::fault_in(setup, phase, self.o, body, ix) {
+            Judgement::Faulty(f) => self.rejected_ended(n, f),
+            Judgement::Fine => self.welcomed(n),
+        }
+    }
+
+    // The gap fill that answers a Resend Request.
+    fn gap_fill(self, body: &[u8], ix: Index) -> Say
+        ensures { λ r. ⌜ r ≡ say.GapFill (numberIn (now (body .entry)) (ix .start) (ix .len) 7) (filledTo (self .o) (numberIn (now (body .entry)) (ix .start) (ix .len) 16)) ⌝ }
+    {
+        let from = table::number_at(body, &ix.start, &ix.len, 7);
+        let last = table::number_at(body, &ix.start, &ix.len, 16);
+        Say::GapFill(from, filled_to(self.o, last))
+    }
+
+    // The table's column "Effect". Of a report the book is to be asked.
+    fn effect(self, n: u32, setup: Setup, body: &[u8], ix: Index) -> Verdict
+        ensures { λ r. ⌜ r ≡ effect self n (factsBy setup self (now (body .entry)) ix) (kindBy setup (now (body .entry)) ix) ⌝ }
+    {
+        let kind = kind_in(setup, body, &ix.start, &ix.len);
+        match kind {
+            Kind::Logon => Verdict::Settled(self.passed(Outcome::Heard)),
+            Kind::Heartbeat => Verdict::Settled(self.passed(Outcome::Heard)),
+            Kind::Test => Verdict::Settled(
+                self.raised()
+                    .settled(Outcome::Echoed, Reply::One(Say::Echo)),
+            ),
+            Kind::Resend => {
+                let fill = self.gap_fill(body, ix);
+                Verdict::Settled(self.raised().settled(Outcome::Filled, Reply::One(fill)))
+            }
+            Kind::Reset => {
+                let reset = is_reset(kind, body, ix);
+                let to = table::number_at(body, &ix.start, &ix.len, 36);
+                Verdict::Settled(self.moved(to, reset, n))
+            }
+            Kind::Logout => Verdict::Settled(self.logged_out()),
+            Kind::Report => Verdict::Report(n),
+            Kind::Other => Verdict::Settled(self.passed(Outcome::Heard)),
+            Kind::Unlisted => Verdict::Settled(self.passed(Outcome::Heard)),
+        }
+    }
+
+    // Steps 5 to 7, and the effect of a faultless message.
+    fn in_turn(self, n: u32, setup: Setup, body: &[u8], ix: Index) -> Verdict
+        ensures { λ r. ⌜ r ≡ inTurn self n (factsBy setup self (now (body .entry)) ix) (faultBy setup (self .phase) (self .o) (now (body .entry)) ix) ⌝ }
+    {
+        let phase = self.phase;
+        match table::fault_in(setup, phase, self.o, body, ix) {
+            Judgement::Faulty(f) => {
+                let kind = kind_in(setup, body, &ix.start, &ix.len);
+                let reset = is_reset(kind, body, ix);
+                Verdict::Settled(self.rejected_if(reset, n, f))
+            }
+            Judgement::Fine => self.effect(n, setup, body, ix),
+        }
+    }
+
+    // "A faultless Resend Request above E is answered first".
+    fn is_answered(self, kind: Kind, setup: Setup, body: &[u8], ix: Index) -> bool
+        ensures { λ r. ⌜ r ≡ isKind kind kinds.Resend && isNone (faultBy setup (self .phase) (self .o) (now (body .entry)) ix) ⌝ }
+    {
+        if !is_kind(kind, Kind::Resend) {
+            return false;
+        }
+        let phase = self.phase;
+        match table::fault_in(setup, phase, self.o, body, ix) {
+            Judgement::Faulty(_) => false,
+            Judgement::Fine => true,
+        }
+    }
+
+    // "Above E: a gap, not applied, answered by a Resend Request (7=E, 16=0)".
+    fn gap(self, setup: Setup, body: &[u8], ix: Index) -> Judged
+        ensures { λ r. ⌜ r ≡ gap self (factsBy setup self (now (body .entry)) ix) ⌝ }
+    {
+        let kind = kind_in(setup, body, &ix.start, &ix.len);
+        let again = is_yes(body, &ix.start, &ix.len, &ix.count, 43);
+        let due = self.is_due(again, kind);
+        if self.is_answered(kind, setup, body, ix) {
+            let fill = self.gap_fill(body, ix);
+            return self.gap_filled(fill, due);
+        }
+        self.gap_seen(due)
+    }
+
+    // A gap by a Resend Request that is answered, and by any other message.
+    fn gap_filled(self, fill: Say, due: bool) -> Judged
+        ensures { λ r. ⌜ r ≡ judged outcome.Gap (gapReply self fill true due) (cond due (asking self) self) ⌝ }
+    {
+        if due {
+            let reply = Reply::Two(fill, Say::Resend(self.e));
+            return self.asking().settled(Outcome::Gap, reply);
+        }
+        self.settled(Outcome::Gap, Reply::One(fill))
+    }
+
+    fn gap_seen(self, due: bool) -> Judged
+        ensures { λ r. ⌜ r ≡ judged outcome.Gap (gapReply self say.Logout false due) (cond due (asking self) self) ⌝ }
+    {
+        if due {
+            let reply = Reply::One(Say::Resend(self.e));
+            return self.asking().settled(Outcome::Gap, reply);
+        }
+        self.settled(Outcome::Gap, Reply::Nothing)
+    }
+
+    // Step 4, in phase 2 or 4: "type 4 without `123=Y` ignores its number".
+    fn judge_turn(self, n: u32, setup: Setup, body: &[u8], ix: Index) -> Verdict
+        ensures { λ r. ⌜ r ≡ step4 self n (factsBy setup self (now (body .entry)) ix) ⌝ }
+    {
+        let kind = kind_in(setup, body, &ix.start, &ix.len);
+        if is_reset(kind, body, ix) {
+            return self.in_turn(n, setup, body, ix);
+        }
+        if n == self.e {
+            return self.in_turn(n, setup, body, ix);
+        }
+        if n < self.e {
+            let again = is_yes(body, &ix.start, &ix.len, &ix.count, 43);
+            return Verdict::Settled(self.below(again));
+        }
+        Verdict::Settled(self.gap(setup, body, ix))
+    }
+
+    // Steps 3 and 4, by phase. A message in phase 0 or 3 is refused before it comes to this.
+    fn by_phase(self, n: u32, setup: Setup, body: &[u8], ix: Index) -> Verdict
+        ensures { λ r. ⌜ r ≡ byPhase (self .phase) self n (factsBy setup self (now (body .entry)) ix) ⌝ }
+    {
+        let phase = self.phase;
+        match phase {
+            Phase::Out => Verdict::Settled(self.settled(Outcome::Dropped, Reply::Nothing)),
+            Phase::Sent => Verdict::Settled(self.judge_logon(n, setup, body, ix)),
+            Phase::In => self.judge_turn(n, setup, body, ix),
+            Phase::Ended => Verdict::Settled(self.settled(Outcome::Dropped, Reply::Nothing)),
+            Phase::Closing => self.judge_turn(n, setup, body, ix),
+        }
+    }
+
+    // "A framed message is judged in this order".
+    pub fn judge(self, setup: Setup, body: &[u8], ix: Index) -> Verdict
+        ensures { λ r. ⌜ r ≡ judgedBy self (factsBy setup self (now (body .entry)) ix) ⌝ }
+    {
+        match sequence(body, &ix.start, &ix.len, &ix.count) {
+            Number::BadForm(_) => Verdict::Settled(self.ended()),
+            Number::OutOfRange => Verdict::Settled(self.ended()),
+            Number::Value(n) => match ids_fault(setup, body, &ix.start, &ix.len, &ix.count) {
+                Judgement::Faulty(f) => Verdict::Settled(self.rejected_ended(n, f)),
+                Judgement::Fine => self.by_phase(n, setup, body, ix),
+            },
+        }
+    }
+}
+
+// Whether a message repeats the 112 of the Test Request that it answers.
+fn echoes(say: Say) -> bool
+    ensures { λ r. ⌜ r ≡ echoes say ⌝ }
+{
+    match say {
+        Say::Logon => false,
+        Say::Heartbeat => false,
+        Say::Echo => true,
+        Say::Test => false,
+        Say::Logout => false,
+        Say::Resend(_) => false,
+        Say::Reject(_, _) => false,
+        Say::GapFill(_, _) => false,
+    }
+}
+
+// The tag whose value a reply repeats: 112 of the Test Request that is answered, or 35, the type that is rejected.
+pub fn word_tag(reply: Reply) -> u32
+    ensures { λ r. ⌜ r ≡ wordTag reply ⌝ }
+{
+    match reply {
+        Reply::Nothing => 35,
+        Reply::One(a) => if echoes(a) { 112 } else { 35 },
+        Reply::Two(_, _) => 35,
+    }
 }

@@ -1,0 +1,4 @@
+pub mod IndexLaws
+pub mod Turns
+pub mod Answers
+pub mod Unique

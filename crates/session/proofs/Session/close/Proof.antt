@@ -1,0 +1,12 @@
+-- `session::Session::close` meets its contract.
+use Rattle.session.specs.Session.{ownCall}
+use borrow.Author.Needs.{needs}
+use Rattle.session.proofs.Session.close.Statement.{statement}
+use Rattle.session.proofs.Session.close.Tie as tie
+
+returns : tie.Need-returns
+unfolding ownCall
+returns c = rw (c .sending .ensures, c .before .into .ensures)
+
+pub close-spec : {M : Type 1} → statement M
+close-spec = tie.close (tie.spec (λ c κs. search needs) (λ c κs. search needs) returns)

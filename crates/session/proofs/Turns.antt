@@ -1,0 +1,273 @@
+-- What a verdict says of the numbers.
+--     seq-read, facts-read, facts-read-in     the number that was read is 1 to 999,999,998, and 36's is at most 999,999,999
+--     report-turn     a report about which the book is asked is in its turn and faultless
+--     report-asked     of a faultless report in its turn the book is asked
+--     settled-numbers     E and O are not lowered, and stay within nine digits
+use mathlib.Core.Path.{_≡_, refl, sym, ap, _∙_, subst}
+use mathlib.Core.Logic.{_⊎_, inl, inr, ⊎-elim}
+use mathlib.Core.List.{List}
+use mathlib.Core.Option.{Option, none, some}
+use mathlib.Core.Bool.{Bool, true, false, cond, _&&_, _||_, not}
+use Prim.Native.Nat.{ℕ, _+_, _-_, _≤_, _<_, min}
+use native.Mathlib.Omega.{arith}
+use lib.Dec.{leb, ltb, eqb}
+use borrow.Author.Tests.{eq-eqb, eqb-true, ltb-true}
+use Rattle.octet.proofs.Cases.{of-cond, true-not-false, or-cases, bool-case}
+use Rattle.value.specs.Readers.{numberRead}
+use Rattle.value.specs.declared.Number.{Number}
+use Rattle.value.specs.declared.Number.the-variants as number
+use Rattle.value.proofs.Numbers.{number-good, number-or-small}
+use Rattle.field.specs.Pieces.{Pieces, firstOf}
+use Rattle.field.specs.declared.Index.{Index}
+use Rattle.answer.specs.Numbers.{fault, inside, isKind, counted}
+use Rattle.answer.specs.declared.Setup.{Setup}
+use Rattle.answer.specs.declared.Phase.{Phase}
+use Rattle.answer.specs.declared.Phase.the-variants as phase
+use Rattle.answer.specs.declared.Kind.{Kind}
+use Rattle.answer.specs.declared.Kind.the-variants as kind
+use Rattle.answer.specs.declared.Fault.{Fault}
+use Rattle.answer.specs.declared.Outcome.{Outcome}
+use Rattle.answer.specs.declared.Outcome.the-variants as outcome
+use Rattle.wire.specs.Messages.{uses, usedBy, isGapFill}
+use Rattle.wire.specs.declared.Say.{Say}
+use Rattle.wire.specs.declared.Say.the-variants as say
+use Rattle.wire.specs.declared.Reply.{Reply}
+use Rattle.wire.specs.declared.Reply.the-variants.{Nothing, One, Two}
+use Rattle.session.specs.Session.{into, expecting, asking, raised, judged, isIn}
+use Rattle.session.specs.Judging.{Facts, ended, rejectedEnded, gapReply, answered, gapFill, numberIf, seqGiven, factsOf, factsIn, welcomed, logon, step3, resetMode, rejectedIf, rejected, passed, movedTo, loggedOut, effect, inTurn, belowIf, gap, due, step4, byPhase, step2, step1, judgedBy}
+use Rattle.session.specs.Indexed.{fieldBy, factsBy}
+use Rattle.session.specs.declared.Session.{Session}
+use Rattle.session.specs.declared.Judged.{Judged}
+use Rattle.session.specs.declared.Verdict.{Verdict}
+use Rattle.session.specs.declared.Verdict.the-variants.{Settled, Report}
+
+-- ---- what is read is small
+
+read-value : (n : ℕ) (r : Number) → numberIf r ≡ some n → r ≡ number.Value n
+read-value n (number.Value k) e = cc
+read-value n (number.BadForm at) e = cc
+read-value n number.OutOfRange e = cc
+
+pub seq-read : (v : Option (List ℕ)) (n : ℕ) → seqGiven v ≡ some n → (1 ≤ n) × (n ≤ 999999998)
+seq-read none n e = let z : _≡_ {A = ℕ} 0 1 = cc in absurd (omega arith)
+seq-read (some v) n e =
+    let good = number-good 1 999999998 v n (read-value n (numberRead 1 999999998 v) e) in
+    (good .least, good .most)
+
+pub record Read (m : Facts) : Type 0 where
+  pub seq : (n : ℕ) → m .seq ≡ some n → (1 ≤ n) × (n ≤ 999999998)
+  pub to : m .to ≤ 999999999
+
+module _ (setup : Setup) (s : Session) where
+  pub facts-read : (body : List ℕ) (ix : Index) → Read (factsBy setup s body ix)
+  unfolding factsBy factsOf
+  facts-read body ix = record { seq = λ n e. seq-read (fieldBy body ix 34) n e; to = number-or-small _ }
+
+  pub facts-read-in : (ps : Pieces) → Read (factsIn setup s ps)
+  unfolding factsIn factsOf
+  facts-read-in ps = record { seq = λ n e. seq-read (firstOf 34 ps) n e; to = number-or-small _ }
+
+-- ---- a report
+
+-- a message that is a faultless report in its turn
+pub record Turn (s : Session) (m : Facts) (n : ℕ) : Type 0 where
+  pub seq : m .seq ≡ some n
+  pub ids : m .ids ≡ none
+  pub phase : inside (s .phase) ≡ true
+  pub number : n ≡ s .e
+  pub kind : m .kind ≡ kind.Report
+  pub fault : m .fault ≡ none
+
+abbrev Says : Session → Facts → Verdict → Type 0
+Says s m (Settled j) = Unit {0}
+Says s m (Report n) = Turn s m n
+
+module _ (s : Session) (m : Facts) (n : ℕ) (seq : m .seq ≡ some n) (ids : m .ids ≡ none) (p : inside (s .phase) ≡ true) where
+  effect-says : (k : Kind) → m .kind ≡ k → m .fault ≡ none → resetMode m || eqb n (s .e) ≡ true → Says s m (effect s n m k)
+  unfolding effect
+  effect-says kind.Logon e f t = tt
+  effect-says kind.Heartbeat e f t = tt
+  effect-says kind.Test e f t = tt
+  effect-says kind.Resend e f t = tt
+  effect-says kind.Reset e f t = tt
+  effect-says kind.Logout e f t = tt
+  effect-says kind.Report e f t = record { seq = seq; ids = ids; phase = p; number = eqb-true n (s .e) (rw e at t); kind = e; fault = f }
+  effect-says kind.Other e f t = tt
+  effect-says kind.Unlisted e f t = tt
+
+  turn-says : (f : Option Fault) → m .fault ≡ f → resetMode m || eqb n (s .e) ≡ true → Says s m (inTurn s n m f)
+  unfolding inTurn
+  turn-says (some f) e t = tt
+  turn-says none e t = effect-says (m .kind) refl e t
+
+  step4-says : Says s m (step4 s n m)
+  unfolding step4
+  step4-says = of-cond (Says s m) (resetMode m || eqb n (s .e)) (λ t. turn-says (m .fault) refl t) (λ t. tt)
+
+phase-says : (s : Session) (m : Facts) (n : ℕ) → m .seq ≡ some n → m .ids ≡ none → (p : Phase) → s .phase ≡ p → Says s m (byPhase p s n m)
+unfolding byPhase
+phase-says s m n seq ids phase.Out e = tt
+phase-says s m n seq ids phase.Sent e = tt
+phase-says s m n seq ids phase.In e = step4-says s m n seq ids (rw e)
+phase-says s m n seq ids phase.Ended e = tt
+phase-says s m n seq ids phase.Closing e = step4-says s m n seq ids (rw e)
+
+ids-says : (s : Session) (m : Facts) (n : ℕ) → m .seq ≡ some n → (f : Option Fault) → m .ids ≡ f → Says s m (step2 s n m f)
+ids-says s m n seq (some f) e = tt
+ids-says s m n seq none e = phase-says s m n seq e (s .phase) refl
+
+seq-says : (s : Session) (m : Facts) (o : Option ℕ) → m .seq ≡ o → Says s m (step1 s m o)
+seq-says s m none e = tt
+seq-says s m (some n) e = ids-says s m n e (m .ids) refl
+
+pub report-turn : (s : Session) (m : Facts) (n : ℕ) → judgedBy s m ≡ Report n → Turn s m n
+unfolding judgedBy
+report-turn s m n e = subst (Says s m) e (seq-says s m (m .seq) refl)
+
+by-inside : (p : Phase) (s : Session) (n : ℕ) (m : Facts) → inside p ≡ true → byPhase p s n m ≡ step4 s n m
+unfolding byPhase
+by-inside phase.Out s n m e = true-not-false (sym e)
+by-inside phase.Sent s n m e = true-not-false (sym e)
+by-inside phase.In s n m e = refl
+by-inside phase.Ended s n m e = true-not-false (sym e)
+by-inside phase.Closing s n m e = refl
+
+turn-step4 : (s : Session) (m : Facts) (n : ℕ) → Turn s m n → step4 s n m ≡ Report n
+unfolding step4 inTurn effect
+turn-step4 s m n t = rw (t .kind, t .fault, eq-eqb n (s .e) (t .number))
+
+pub report-asked : (s : Session) (m : Facts) (n : ℕ) → Turn s m n → judgedBy s m ≡ Report n
+unfolding judgedBy
+report-asked s m n t = ap (step1 s m) (t .seq) ∙ ap (step2 s n m) (t .ids) ∙ by-inside (s .phase) s n m (t .phase) ∙ turn-step4 s m n t
+
+-- ---- E and O
+
+pub record Onward (s next : Session) : Type 0 where
+  pub e-up : s .e ≤ next .e
+  pub e-most : next .e ≤ 999999999
+  pub o-up : s .o ≤ next .o
+  pub o-most : next .o ≤ 999999999
+
+uses-most : (a : Say) → uses a ≤ 1
+uses-most a = of-cond (λ (n : ℕ). n ≤ 1) (isGapFill a) (λ e. omega arith) (λ e. omega arith)
+
+pub used-most : (r : Reply) → usedBy r ≤ 2
+used-most Nothing = omega arith
+used-most (One a) = omega (arith, uses-most a)
+used-most (Two a b) = omega (arith, uses-most a, uses-most b)
+
+-- whatever is written, where E goes on so far
+module _ (s : Session) (o-small : s .o ≤ 999999997) where
+  pub onward : (o : Outcome) (reply : Reply) (next : Session) → next .o ≡ s .o → s .e ≤ next .e → next .e ≤ 999999999 → Onward s (judged o reply next .next)
+  onward o reply next e f g = record { e-up = f; e-most = g; o-up = omega (arith, used-most reply); o-most = omega (arith, used-most reply) }
+
+  module _ (e-small : s .e ≤ 999999998) where
+    pub rejected-numbers : (n : ℕ) (f : Fault) → Onward s (rejected s n f .next)
+    rejected-numbers n f = onward (outcome.Rejected f) (One (say.Reject n f)) (raised s) refl (omega arith) (omega arith)
+
+    pub passed-numbers : (o : Outcome) → Onward s (passed o s .next)
+    passed-numbers o = onward o Nothing (raised s) refl (omega arith) (omega arith)
+
+abbrev Goes : Session → Verdict → Type 0
+Goes s (Settled j) = Onward s (j .next)
+Goes s (Report n) = Unit {0}
+
+module _ (s : Session) (o-small : s .o ≤ 999999997) (e-small : s .e ≤ 999999999) where
+  -- E stays
+  stays : (o : Outcome) (reply : Reply) (next : Session) → next .o ≡ s .o → next .e ≡ s .e → Onward s (judged o reply next .next)
+  stays o reply next e f = onward s o-small o reply next e (omega arith) (omega arith)
+
+  ended-goes : Onward s (ended s .next)
+  ended-goes = stays outcome.Ended (One say.Logout) (into phase.Ended s) refl refl
+
+  rejected-ended-goes : (n : ℕ) (f : Fault) → Onward s (rejectedEnded s n f .next)
+  rejected-ended-goes n f = stays (outcome.RejectedEnded f) (Two (say.Reject n f) say.Logout) (into phase.Ended s) refl refl
+
+  dropped-goes : Onward s (judged outcome.Dropped Nothing s .next)
+  dropped-goes = stays outcome.Dropped Nothing s refl refl
+
+  rejected-goes : (reset : Bool) (n : ℕ) (f : Fault) → (reset ≡ false → s .e ≤ 999999998) → Onward s (rejectedIf reset s n f .next)
+  unfolding rejectedIf
+  rejected-goes true n f h = stays (outcome.Rejected f) (One (say.Reject n f)) s refl refl
+  rejected-goes false n f h = rejected-numbers s o-small (h refl) n f
+
+  moved-goes : (to : ℕ) (reset : Bool) (n : ℕ) → to ≤ 999999999 → (reset ≡ false → s .e ≤ 999999998) → Onward s (movedTo to reset s n .next)
+  unfolding movedTo
+  moved-goes to reset n l h =
+      of-cond (λ (j : Judged). Onward s (j .next)) (ltb (s .e) to)
+      (λ t. (let g = ltb-true (s .e) to t in onward s o-small (outcome.Moved (to - s .e)) Nothing (expecting to s) refl (omega arith) l))
+      (λ t. of-cond (λ (j : Judged). Onward s (j .next)) (eqb to (s .e) && reset) (λ u. stays outcome.Heard Nothing s refl refl) (λ u. rejected-goes reset n (fault 5 36) h))
+
+  module _ (m : Facts) (read : Read m) (n : ℕ) (seq : m .seq ≡ some n) where
+    low : n ≡ s .e → s .e ≤ 999999998
+    low e = omega (arith, read .seq n seq .1)
+
+    effect-goes : (k : Kind) → m .kind ≡ k → (resetMode m ≡ false → s .e ≤ 999999998) → Goes s (effect s n m k)
+    unfolding effect loggedOut
+    effect-goes kind.Logon e h = passed-numbers s o-small (h (rw e)) outcome.Heard
+    effect-goes kind.Heartbeat e h = passed-numbers s o-small (h (rw e)) outcome.Heard
+    effect-goes kind.Test e h = let l = h (rw e) in onward s o-small outcome.Echoed (One say.Echo) (raised s) refl (omega arith) (omega arith)
+    effect-goes kind.Resend e h = let l = h (rw e) in onward s o-small outcome.Filled (One (gapFill s m)) (raised s) refl (omega arith) (omega arith)
+    effect-goes kind.Reset e h = moved-goes (m .to) (resetMode m) n (read .to) h
+    effect-goes kind.Logout e h =
+        let l = h (rw e) in
+        onward s o-small outcome.Ended (cond (isIn (s .phase)) (One say.Logout) Nothing) (into phase.Ended (raised s)) refl (omega arith) (omega arith)
+    effect-goes kind.Report e h = tt
+    effect-goes kind.Other e h = passed-numbers s o-small (h (rw e)) outcome.Heard
+    effect-goes kind.Unlisted e h = passed-numbers s o-small (h (rw e)) outcome.Heard
+
+    turn-goes : (f : Option Fault) → (resetMode m ≡ false → s .e ≤ 999999998) → Goes s (inTurn s n m f)
+    unfolding inTurn
+    turn-goes (some f) h = rejected-goes (resetMode m) n f h
+    turn-goes none h = effect-goes (m .kind) refl h
+
+    by-number : (r : Bool) → r || eqb n (s .e) ≡ true → r ≡ false → s .e ≤ 999999998
+    by-number r t e = low (eqb-true n (s .e) (rw e at t))
+
+    gap-goes : Onward s (gap s m .next)
+    unfolding gap
+    gap-goes =
+        stays outcome.Gap (gapReply s (gapFill s m) (answered m) (due s m)) (cond (due s m) (asking s) s) (of-cond (λ (x : Session). x .o ≡ s .o) (due s m) (λ t. refl) (λ t. refl))
+        (of-cond (λ (x : Session). x .e ≡ s .e) (due s m) (λ t. refl) (λ t. refl))
+
+    logon-goes : (f : Option Fault) → Onward s (logon s n f .next)
+    logon-goes (some f) = rejected-ended-goes n f
+    logon-goes none =
+        of-cond (λ (j : Judged). Onward s (j .next)) (eqb n (s .e))
+        (λ t. (let l = low (eqb-true n (s .e) t) in onward s o-small outcome.In Nothing (into phase.In (raised s)) refl (omega arith) (omega arith)))
+        (λ t. stays outcome.In (One (say.Resend (s .e))) (into phase.In (asking s)) refl refl)
+
+    step3-goes : Onward s (step3 s n m .next)
+    unfolding step3
+    step3-goes =
+        of-cond (λ (j : Judged). Onward s (j .next)) (isKind (m .kind) kind.Logon && leb (s .e) n) (λ t. logon-goes (m .fault)) (λ t. ended-goes)
+
+    below-goes : (again : Bool) → Onward s (belowIf again s .next)
+    below-goes true = dropped-goes
+    below-goes false = ended-goes
+
+    step4-goes : Goes s (step4 s n m)
+    unfolding step4
+    step4-goes =
+        of-cond (Goes s) (resetMode m || eqb n (s .e)) (λ t. turn-goes (m .fault) (by-number (resetMode m) t))
+        (λ t. of-cond (λ (j : Judged). Onward s (j .next)) (ltb n (s .e)) (λ u. below-goes (m .again)) (λ u. gap-goes))
+
+    phase-goes : (p : Phase) → Goes s (byPhase p s n m)
+    unfolding byPhase
+    phase-goes phase.Out = dropped-goes
+    phase-goes phase.Sent = step3-goes
+    phase-goes phase.In = step4-goes
+    phase-goes phase.Ended = dropped-goes
+    phase-goes phase.Closing = step4-goes
+
+    ids-goes : (f : Option Fault) → Goes s (step2 s n m f)
+    ids-goes (some f) = rejected-ended-goes n f
+    ids-goes none = phase-goes (s .phase)
+
+  seq-goes : (m : Facts) → Read m → (o : Option ℕ) → m .seq ≡ o → Goes s (step1 s m o)
+  seq-goes m read none e = ended-goes
+  seq-goes m read (some n) e = ids-goes m read n e (m .ids)
+
+  pub settled-numbers : (m : Facts) → Read m → (j : Judged) → judgedBy s m ≡ Settled j → Onward s (j .next)
+  unfolding judgedBy
+  settled-numbers m read j e = subst (Goes s) e (seq-goes m read (m .seq) refl)
