@@ -1,1 +1,10 @@
 pub mod Worked
+pub mod Executions
+pub mod Chain
+pub mod Unbooked
+pub mod Acts
+pub mod Day
+pub mod Good
+pub mod Waiting
+pub mod Between
+pub mod Surviving

@@ -1,0 +1,436 @@
+-- What one call does to what is kept, by its note; to the marks, and to what was shown; and that it says that it booked a fill exactly where it did.
+use Prim.Native.Nat.{ℕ, zero, suc, _+_, _-_, _≤_, _<_}
+use mathlib.Core.Path.{_≡_, refl, sym, ap, ap₂, _∙_, subst}
+use mathlib.Core.Logic.{_⊎_, ⊎-elim, _↔_}
+use mathlib.Core.List.{List, [], _∷_, _++_, append-assoc, append-nil}
+use mathlib.Core.Option.{Option, none, some}
+use mathlib.Core.Bool.{Bool, true, false, cond, _&&_, _||_, not}
+use native.Mathlib.Nat.{suc-ne-zero}
+use native.Mathlib.Omega.{arith}
+use lib.ListN.{length, take, drop, getD, length-append, length-drop, length-take}
+use lib.Seq.{take-append-le, drop-append-le, take-suc, getD-drop}
+use lib.Dec.{leb, ltb, eqb}
+use borrow.Author.Tests.{ltb-true, ltb-false, leb-false, leb-true, eqb-true, eqb-false, eq-eqb, lt-ltb, le-leb}
+use Rattle.octet.specs.Maybe.{orElse, first}
+use Rattle.octet.proofs.Cases.{of-cond, contrary, and-both, and-make, and-fails, or-left, or-right}
+use Rattle.answer.specs.declared.Setup.{Setup}
+use Rattle.answer.specs.declared.Fault.{Fault}
+use Rattle.answer.specs.declared.Kind.the-variants as kind
+use Rattle.answer.specs.declared.Outcome.{Outcome}
+use Rattle.answer.specs.declared.Outcome.the-variants as outcome
+use Rattle.answer.specs.declared.Refusal.{Refusal}
+use Rattle.answer.specs.declared.Refusal.the-variants as refusal
+use Rattle.frame.specs.Finding.{foundIn, bodyIn}
+use Rattle.frame.specs.declared.Found.{Found}
+use Rattle.frame.specs.declared.Found.the-variants as found
+use Rattle.field.specs.Pieces.{Pieces, piecesOf, textAt}
+use Rattle.table.specs.Rows.{kindIn}
+use Rattle.table.specs.Steps.{faultIn}
+use Rattle.wire.specs.Messages.{replyOf}
+use Rattle.wire.specs.declared.Reply.the-variants.{One}
+use Rattle.fill.specs.Slot.{Slot, lineOf, slotLawful, fillMark}
+use Rattle.book.specs.Place.{place, isNew, hasRoom, inStep}
+use Rattle.book.specs.declared.Placed.{Placed}
+use Rattle.book.specs.declared.Placed.the-variants as placed
+use Rattle.note.specs.Notes.{Note, Leaves, Books, Marks, Clears}
+use Rattle.note.specs.Kept.{Kept, empty, top, bookable, lawful, after}
+use Rattle.note.proofs.Reading.{IsSlot}
+use Rattle.report.specs.Report.{reportIn, reportedIn, slotIn, ruleFault}
+use Rattle.report.specs.declared.Reported.{Reported}
+use Rattle.report.specs.declared.Reported.the-variants as reported
+use Rattle.report.proofs.Kept.{fill-told}
+use Rattle.report.proofs.Lawful.{Lawful, report-lawful}
+use Rattle.queue.specs.Queue.{shortNote}
+use Rattle.session.specs.Session.{says, isOn, mayCall, into, phaseAfter, ownCall, lineLost}
+use Rattle.session.specs.Judging.{Facts, factsOf, factsIn, judge, rejected, passed}
+use Rattle.session.proofs.Turns.{Onward, onward, rejected-numbers, passed-numbers, facts-read-in, report-turn, settled-numbers}
+use Rattle.session.specs.declared.Own.{Own}
+use Rattle.session.specs.declared.Session.{Session}
+use Rattle.session.specs.declared.Judged.{Judged}
+use Rattle.session.specs.declared.Verdict.{Verdict}
+use Rattle.session.specs.declared.Verdict.the-variants.{Settled, Report}
+use Rattle.receiver.specs.State.{State, woken, Did, quiet, noting, sessionOf, withSession, keeping, offering, noteOfChange}
+use Rattle.receiver.specs.Calls.{owned, lost, settled, bookingNote, booked, bookedOr, placedFill, ruled, judgedBy, framed, foundTo, message, offerOf, offer, beginAgain, acknowledge, isEmpty, newDay}
+use Rattle.receiver.specs.Receiver.{What, Own-call, Line-lost, Message, Offer, Begin-again, Acknowledge, New-day, Restart, Lent, refuse, shortReply, badGiven, lastNumber, writing, refusalOf, unrefused, unless-refused, does}
+use Rattle.receiver.specs.declared.Answer.{Answer}
+use Rattle.receiver.specs.declared.Answer.the-variants.{Done, Refused, More, Garbled, Framed, Offered, None, Acked, Already}
+use Rattle.promise.specs.World.{isRestart, gave, Shown, showing, anew, linesOf}
+use Rattle.promise.specs.Demand3.{Booking, numberBooked, numberTold}
+use Rattle.promise.proofs.Executions.{none-some, no-snoc, no-empty, lines-append, lines-length}
+use Rattle.promise.proofs.Chain.{sessional, Says, Noted, NoteSays, Tells, Safe}
+use Rattle.promise.proofs.Unbooked.{settled-unbooked}
+
+-- the marks in order, and what was shown: the lines of the fills from the base to the offered mark
+pub record Stands (st : State) (h : Shown) : Type 0 where
+  pub low : st .kept .acked ≤ st .offered
+  pub high : st .offered ≤ length (st .kept .slots)
+  pub base : h .base ≤ st .kept .acked
+  pub given : h .given ≡ linesOf (h .base + 1) (take (st .offered - h .base) (drop (h .base) (st .kept .slots)))
+
+pub record Acts (st : State) (w : What) (d : Did) : Type 0 where
+  pub notes : NoteSays (st .kept) w (d .next .kept) (d .note)
+  pub tells : Tells st d
+  pub marks : (h : Shown) → Stands st h → Stands (d .next) (showing h w d (anew w (d .answer)))
+
+-- ---- no fill is booked
+
+tells-none : (st : State) (d : Did) → numberTold (d .answer) ≡ none → d .next .kept .slots ≡ st .kept .slots → Tells st d
+tells-none st d u e n = ((λ h. none-some n (sym u ∙ h)), λ x. no-snoc (st .kept .slots) (x .0) (sym e ∙ x .1 .slots))
+
+-- ---- the marks stay, and the fills are the same or more
+
+stands-more : (st : State) (w : What) (d : Did) (h : Shown) (gs : List Slot) → d .next .offered ≡ st .offered → d .next .kept .acked ≡ st .kept .acked
+    → d .next .kept .slots ≡ st .kept .slots ++ gs → anew w (d .answer) ≡ false → gave (d .answer) (d .line) ≡ [] → Stands st h
+    → Stands (d .next) (showing h w d (anew w (d .answer)))
+stands-more st w d h gs o a f anew-not gave-none m =
+    let l : List Slot = st .kept .slots in
+    let b : ℕ = h .base in
+    let n : ℕ = st .offered in
+    let lf : length (d .next .kept .slots) ≡ length l + length gs = ap length f ∙ length-append l gs in
+    let hb : b ≤ length l = omega (arith, m .base, m .low, m .high) in
+    let ht : n - b ≤ length (drop b l) = omega (arith, length-drop b l, m .high) in
+    subst (λ (x : Bool). Stands (d .next) (showing h w d x)) (sym anew-not) (record {
+      low = omega (arith, m .low);
+      high = omega (arith, m .high);
+      base = omega (arith, m .base);
+      given = ap (λ (x : List (List ℕ)). h .given ++ x) gave-none ∙ append-nil (h .given) ∙ m .given
+          ∙ ap (linesOf (b + 1)) (sym (ap₂ (λ (i : ℕ) (x : List Slot). take (i - b) (drop b x)) o f ∙ ap (take (n - b)) (drop-append-le b l gs hb) ∙ take-append-le (n - b) (drop b l) gs ht));
+    })
+
+stands-same : (st : State) (w : What) (d : Did) (h : Shown) → d .next .offered ≡ st .offered → d .next .kept .acked ≡ st .kept .acked
+    → d .next .kept .slots ≡ st .kept .slots → anew w (d .answer) ≡ false → gave (d .answer) (d .line) ≡ [] → Stands st h
+    → Stands (d .next) (showing h w d (anew w (d .answer)))
+stands-same st w d h o a f = stands-more st w d h [] o a (f ∙ sym (append-nil (st .kept .slots)))
+
+-- a call that changes nothing
+acts-quiet : (st : State) (w : What) (a : Answer) → anew w a ≡ false → gave a [] ≡ [] → numberTold a ≡ none → Acts st w (quiet a st)
+acts-quiet st w a e g u = record {
+  notes = refl;
+  tells = tells-none st (quiet a st) u refl;
+  marks = λ h m. stands-same st w (quiet a st) h refl refl refl e g m;
+}
+
+-- ---- the session's calls
+
+kept-path : (q : Kept) (e o : ℕ) → e ≡ q .e → o ≡ q .o → record { e = e; o = o; slots = q .slots; orders = q .orders; acked = q .acked } ≡ q
+kept-path q e o a b = λ i. record { e = a i; o = b i; slots = q .slots; orders = q .orders; acked = q .acked }
+
+leaves-law : (q : Kept) (e o : ℕ) → q .e ≤ e → e ≤ top → q .o ≤ o → o ≤ top → eqb (q .e) e && eqb (q .o) o ≡ false → lawful q (Leaves e o) ≡ true
+unfolding lawful
+leaves-law q e o a b c d h =
+    let up : ltb (q .e) e || ltb (q .o) o ≡ true =
+    ⊎-elim
+    (λ x. or-left (ltb (q .e) e) (ltb (q .o) o) (lt-ltb (q .e) e (let z = eqb-false (q .e) e x in omega arith)))
+    (λ x. or-right (ltb (q .e) e) (ltb (q .o) o) (lt-ltb (q .o) o (let z = eqb-false (q .o) o x in omega arith)))
+    (and-fails (eqb (q .e) e) (eqb (q .o) o) h) in
+    rw (up, le-leb (q .e) e a, le-leb (q .o) o c, le-leb e top b, le-leb o top d)
+
+change-says : (st : State) (w : What) (t : Session) → ((n : Note) → sessional n ≡ true → Says w n) → Onward (sessionOf st) t
+    → NoteSays (st .kept) w (withSession st t .kept) (noteOfChange (sessionOf st) t)
+unfolding noteOfChange after
+change-says st w t says f =
+    of-cond (NoteSays (st .kept) w (withSession st t .kept)) (eqb (st .kept .e) (t .e) && eqb (st .kept .o) (t .o))
+    (λ h. let p = and-both (eqb (st .kept .e) (t .e)) (eqb (st .kept .o) (t .o)) h in
+    kept-path (st .kept) (t .e) (t .o) (sym (eqb-true (st .kept .e) (t .e) (p .0))) (sym (eqb-true (st .kept .o) (t .o) (p .1))))
+    (λ h. record {
+      law = leaves-law (st .kept) (t .e) (t .o) (f .e-up) (f .e-most) (f .o-up) (f .o-most) h;
+      slotted = tt;
+      to = refl;
+      says = says (Leaves (t .e) (t .o)) refl;
+    })
+
+acts-session : (st : State) (w : What) (a : Answer) (t : Session) (reply : List ℕ) → ((n : Note) → sessional n ≡ true → Says w n) → Onward (sessionOf st) t
+    → anew w a ≡ false → gave a [] ≡ [] → numberTold a ≡ none
+    → Acts st w (record { answer = a; next = withSession st t; reply = reply; note = noteOfChange (sessionOf st) t; line = [] })
+acts-session st w a t reply says f e g u =
+    let d : Did = record { answer = a; next = withSession st t; reply = reply; note = noteOfChange (sessionOf st) t; line = [] } in
+    record {
+      notes = change-says st w t says f;
+      tells = tells-none st d u refl;
+      marks = λ h m. stands-same st w d h refl refl refl e g m;
+    }
+
+acts-owned : (setup : Setup) (st : State) (time : List ℕ) (own : Own) → st .kept .e ≤ top → st .kept .o ≤ lastNumber → Acts st (Own-call own time) (owned setup st time own)
+unfolding owned ownCall
+acts-owned setup st time own a b =
+    acts-session st (Own-call own time) Done (ownCall own (sessionOf st)) _ (λ n h. h)
+    (onward (sessionOf st) b outcome.Heard (One (says own)) (into (phaseAfter own) (sessionOf st)) refl (omega arith) a)
+    refl refl refl
+
+acts-lost : (st : State) → Acts st Line-lost (lost st)
+unfolding lost
+acts-lost st = record {
+  notes = refl;
+  tells = tells-none st (quiet Done (withSession st (lineLost (sessionOf st)))) refl refl;
+  marks = λ h m. stands-same st Line-lost (quiet Done (withSession st (lineLost (sessionOf st)))) h refl refl refl refl refl m;
+}
+
+-- ---- a message
+
+some-same : (a b : ℕ) → some a ≡ some b → a ≡ b
+some-same a b h = cc
+
+module _ (setup : Setup) (st : State) (time s : List ℕ) (safe : Safe (st .kept)) (o-most : st .kept .o ≤ lastNumber) where
+  acts-settled : (len : ℕ) (ps : Pieces) (j : Judged) → Onward (sessionOf st) (j .next) → numberBooked (j .outcome) ≡ none
+      → Acts st (Message time s) (settled setup st time len ps j)
+  unfolding settled
+  acts-settled len ps j f u = acts-session st (Message time s) (Framed len (j .outcome)) (j .next) _ (λ n h. h) f refl refl u
+
+  acts-passed : (len : ℕ) (ps : Pieces) (o : Outcome) → st .kept .e < top → numberBooked o ≡ none → Acts st (Message time s) (settled setup st time len ps (passed o (sessionOf st)))
+  acts-passed len ps o l u = acts-settled len ps (passed o (sessionOf st)) (passed-numbers (sessionOf st) o-most (omega arith) o) u
+
+  acts-rejected : (len : ℕ) (ps : Pieces) (n : ℕ) (f : Fault) → st .kept .e < top → Acts st (Message time s) (settled setup st time len ps (rejected (sessionOf st) n f))
+  acts-rejected len ps n f l = acts-settled len ps (rejected (sessionOf st) n f) (rejected-numbers (sessionOf st) o-most (omega arith) n f) refl
+
+  books-law : (f : Slot) → st .kept .e < top → slotLawful f ≡ true → place (st .kept .slots) f ≡ placed.New → hasRoom (st .kept .slots) (st .kept .orders) f ≡ true
+      → lawful (st .kept) (bookingNote st f) ≡ true
+  unfolding lawful bookable
+  books-law f l law new room =
+      let e : ℕ = st .kept .e + 1 in
+      rw (eq-eqb e e refl, le-leb e top (omega arith), eq-eqb (st .kept .o) (st .kept .o) refl, law, ap isNew new, room)
+
+  acts-booked : (len : ℕ) (f : Slot) → st .kept .e < top → Lawful f → place (st .kept .slots) f ≡ placed.New → hasRoom (st .kept .slots) (st .kept .orders) f ≡ true
+      → Acts st (Message time s) (booked st len f)
+  unfolding booked after
+  acts-booked len f l law new room =
+      let q : Kept = st .kept in
+      let more : length (q .slots ++ (f ∷ [])) ≡ length (q .slots) + 1 = length-append (q .slots) (f ∷ []) in
+      record {
+        notes = record {
+          law = books-law f l (law .lawful) new room;
+          slotted = record { wide = law .long; marked = eqb-true (getD f 0 0) fillMark (law .marked) };
+          to = refl;
+          says = refl;
+        };
+        tells = λ n. (
+          (λ h. (f, record { slots = refl; number = sym (some-same (length (q .slots) + 1) n h) ∙ sym more })),
+          (λ x. ap some (sym more ∙ sym (x .1 .number))),
+        );
+        marks = λ h m. stands-more st (Message time s) (booked st len f) h (f ∷ []) refl refl refl refl refl m;
+      }
+
+  acts-placed : (len : ℕ) (ps : Pieces) (n : ℕ) (p : Placed) → st .kept .e < top → Lawful (slotIn ps) → place (st .kept .slots) (slotIn ps) ≡ p
+      → Acts st (Message time s) (placedFill setup st time len ps n p)
+  unfolding placedFill bookedOr
+  acts-placed len ps n placed.New l law e =
+      of-cond (Acts st (Message time s)) (hasRoom (st .kept .slots) (st .kept .orders) (slotIn ps))
+      (λ room. acts-booked len (slotIn ps) l law e room)
+      (λ _. acts-quiet st (Message time s) (Refused refusal.NoRoom) refl refl refl)
+  acts-placed len ps n placed.Already l law e =
+      acts-passed len ps outcome.Already l refl
+  acts-placed len ps n (placed.Clash f) l law e =
+      acts-rejected len ps n f l
+
+  acts-ruled : (len : ℕ) (ps : Pieces) (n : ℕ) (r : Reported) → reportedIn ps ≡ r → st .kept .e < top
+      → (ruleFault (reportIn ps) ≡ none → Lawful (slotIn ps)) → Acts st (Message time s) (ruled setup st time len ps n r)
+  unfolding ruled
+  acts-ruled len ps n (reported.Faulty f) e l law =
+      acts-rejected len ps n f l
+  acts-ruled len ps n reported.Aside e l law =
+      acts-passed len ps outcome.Aside l refl
+  acts-ruled len ps n reported.Fill e l law =
+      acts-placed len ps n (place (st .kept .slots) (slotIn ps)) l (law (fill-told (reportIn ps) e .0)) refl
+
+  acts-judged : (len : ℕ) (ps : Pieces) (v : Verdict) → judge setup (sessionOf st) ps ≡ v → Acts st (Message time s) (judgedBy setup st time len ps v)
+  unfolding judgedBy judge factsIn factsOf
+  acts-judged len ps (Settled j) e =
+      let m : Facts = factsIn setup (sessionOf st) ps in
+      acts-settled len ps j (settled-numbers (sessionOf st) o-most (safe .sound .expected) m (facts-read-in setup (sessionOf st) ps) j e)
+      (settled-unbooked setup (sessionOf st) ps j e)
+  acts-judged len ps (Report n) e =
+      let m : Facts = factsIn setup (sessionOf st) ps in
+      let t = report-turn (sessionOf st) m n e in
+      let small = facts-read-in setup (sessionOf st) ps .seq n (t .seq) .1 in
+      let low : st .kept .e < top = let z : n ≡ st .kept .e = t .number in omega arith in
+      acts-ruled len ps n (reportedIn ps) refl low (report-lawful setup (st .phase) (st .kept .o) ps (t .fault) (t .kind))
+
+  acts-found : (f : Found) → Acts st (Message time s) (foundTo setup st time s f)
+  unfolding foundTo framed
+  acts-found found.More = acts-quiet st (Message time s) More refl refl refl
+  acts-found (found.Garbled skip) = acts-quiet st (Message time s) (Garbled skip) refl refl refl
+  acts-found (found.Framed len) =
+      let ps : Pieces = piecesOf (bodyIn len s) in
+      acts-judged len ps (judge setup (sessionOf st) ps) refl
+
+  acts-message : Acts st (Message time s) (message setup st time s)
+  unfolding message
+  acts-message = acts-found (foundIn s)
+
+-- ---- the queue
+
+shown-next : (st : State) (h : Shown) (f : Slot) (fs : List Slot) → drop (st .offered) (st .kept .slots) ≡ f ∷ fs → Stands st h
+    → Stands (offering (st .offered + 1) st) (record { base = h .base; given = h .given ++ (lineOf (st .offered + 1) f ∷ []) })
+shown-next st h f fs e m =
+    let l : List Slot = st .kept .slots in
+    let n : ℕ = st .offered in
+    let b : ℕ = h .base in
+    let ln : length l - n ≡ suc (length fs) = sym (length-drop n l) ∙ ap length e in
+    let lo : st .kept .acked ≤ n = m .low in
+    let hb : b ≤ st .kept .acked = m .base in
+    let j : ℕ = n - b in
+    let jl : j < length (drop b l) = omega (arith, length-drop b l) in
+    let at : b + j ≡ n + 0 = omega arith in
+    let el : getD (drop b l) j [] ≡ f
+    = getD-drop b l j [] ∙ ap (λ (i : ℕ). getD l i []) at ∙ sym (getD-drop n l 0 []) ∙ ap (λ (x : List Slot). getD x 0 []) e in
+    let k : n + 1 - b ≡ suc j = omega arith in
+    let t : List Slot = take j (drop b l) in
+    let lt : length t ≡ j = omega (arith, length-take j (drop b l)) in
+    let num : n + 1 ≡ b + 1 + length t = omega arith in
+    let more : take (n + 1 - b) (drop b l) ≡ t ++ (f ∷ [])
+    = ap (λ (i : ℕ). take i (drop b l)) k ∙ take-suc (drop b l) j [] jl ∙ ap (λ (y : Slot). t ++ (y ∷ [])) el in
+    record {
+      low = omega arith;
+      high = omega arith;
+      base = hb;
+      given = ap₂ (λ (x : List (List ℕ)) (i : ℕ). x ++ (lineOf i f ∷ [])) (m .given) num
+          ∙ sym (lines-append (b + 1) t (f ∷ []))
+          ∙ ap (linesOf (b + 1)) (sym more);
+    }
+
+acts-offering : (st : State) (fs : List Slot) → drop (st .offered) (st .kept .slots) ≡ fs → Acts st Offer (offerOf st (first fs))
+acts-offering st [] e = acts-quiet st Offer None refl refl refl
+acts-offering st (f ∷ fs) e = record {
+  notes = refl;
+  tells = tells-none st (offerOf st (some f)) refl refl;
+  marks = λ h m. shown-next st h f fs e m;
+}
+
+acts-offer : (st : State) → Acts st Offer (offer st)
+unfolding offer
+acts-offer st = acts-offering st (drop (st .offered) (st .kept .slots)) refl
+
+sub-self : (n : ℕ) → n - n ≡ 0
+sub-self n = omega arith
+
+acts-begin : (st : State) → st .kept .acked ≤ length (st .kept .slots) → Acts st Begin-again (beginAgain st)
+unfolding beginAgain
+acts-begin st mk = record {
+  notes = refl;
+  tells = tells-none st (quiet Done (offering (st .kept .acked) st)) refl refl;
+  marks = λ h m. record {
+    low = omega arith;
+    high = mk;
+    base = omega arith;
+    given = sym (ap (λ (i : ℕ). linesOf (st .kept .acked + 1) (take i (drop (st .kept .acked) (st .kept .slots)))) (sub-self (st .kept .acked)));
+  };
+}
+
+acts-acked : (st : State) (n : ℕ) → n ≤ st .offered → st .kept .acked < n → st .offered ≤ length (st .kept .slots)
+    → Acts st (Acknowledge n) (noting Acked (Marks n) (keeping st (after (st .kept) (Marks n))))
+unfolding after lawful
+acts-acked st n h g high = record {
+  notes = record {
+    law = rw (lt-ltb (st .kept .acked) n g, le-leb n (length (st .kept .slots)) (omega arith));
+    slotted = tt;
+    to = refl;
+    says = refl;
+  };
+  tells = tells-none st (noting Acked (Marks n) (keeping st (after (st .kept) (Marks n)))) refl refl;
+  marks = λ x m. record { low = h; high = m .high; base = omega (arith, m .base); given = append-nil (x .given) ∙ m .given };
+}
+
+acts-acknowledge : (st : State) (n : ℕ) → st .offered ≤ length (st .kept .slots) → n ≤ st .offered → Acts st (Acknowledge n) (acknowledge st n)
+unfolding acknowledge
+acts-acknowledge st n high h =
+    of-cond (Acts st (Acknowledge n)) (leb n (st .kept .acked))
+    (λ _. acts-quiet st (Acknowledge n) Already refl refl refl)
+    (λ b. acts-acked st n h (leb-false n (st .kept .acked) b) high)
+
+nil-of : (l : List Slot) → length l ≡ 0 → l ≡ []
+nil-of [] h = refl
+nil-of (x ∷ l) h = absurd (suc-ne-zero (length l) h)
+
+empty-path : (q : Kept) → Safe q → isEmpty q ≡ true → empty ≡ q
+empty-path q safe h =
+    let a = and-both (eqb (q .e) 1 && eqb (q .o) 1 && eqb (length (q .slots)) 0) (eqb (q .acked) 0) h in
+    let b = and-both (eqb (q .e) 1 && eqb (q .o) 1) (eqb (length (q .slots)) 0) (a .0) in
+    let c = and-both (eqb (q .e) 1) (eqb (q .o) 1) (b .0) in
+    let e : q .e ≡ 1 = eqb-true (q .e) 1 (c .0) in
+    let o : q .o ≡ 1 = eqb-true (q .o) 1 (c .1) in
+    let l : length (q .slots) ≡ 0 = eqb-true (length (q .slots)) 0 (b .1) in
+    let s : q .slots ≡ [] = nil-of (q .slots) l in
+    let n : q .orders ≡ 0 = omega (arith, safe .sound .orders-few) in
+    let k : q .acked ≡ 0 = eqb-true (q .acked) 0 (a .1) in
+    λ i. record { e = sym e i; o = sym o i; slots = sym s i; orders = sym n i; acked = sym k i }
+
+stands-fresh : Stands (woken empty) (record { base = 0; given = [] })
+stands-fresh = record { low = omega arith; high = omega arith; base = omega arith; given = refl }
+
+tells-day : (st : State) (d : Did) → numberTold (d .answer) ≡ none → d .next .kept .slots ≡ [] → Tells st d
+tells-day st d u e n = ((λ h. none-some n (sym u ∙ h)), λ x. no-empty (st .kept .slots) (x .0) (sym e ∙ x .1 .slots))
+
+acts-day : (st : State) → Safe (st .kept) → length (st .kept .slots) ≤ st .kept .acked → Acts st New-day (newDay st)
+unfolding newDay after lawful
+acts-day st safe h =
+    of-cond (Acts st New-day) (isEmpty (st .kept))
+    (λ e. record {
+      notes = empty-path (st .kept) safe e;
+      tells = tells-day st (quiet Done (woken empty)) refl refl;
+      marks = λ x m. stands-fresh;
+    })
+    (λ _. record {
+      notes = record {
+        law = eq-eqb (st .kept .acked) (length (st .kept .slots)) (let z = safe .sound .mark in omega arith);
+        slotted = tt;
+        to = refl;
+        says = refl;
+      };
+      tells = tells-day st (noting Done Clears (woken empty)) refl refl;
+      marks = λ x m. stands-fresh;
+    })
+
+-- ---- refusals
+
+pub not-refused : (why : Refusal) (t : Bool) → refuse why t ≡ none → t ≡ false
+not-refused why true h = none-some why (sym h)
+not-refused why false h = refl
+
+pub neither : (why : Refusal) (t : Bool) (rest : Option Refusal) → orElse (refuse why t) rest ≡ none → (t ≡ false) × (rest ≡ none)
+neither why true rest h = none-some why (sym h)
+neither why false rest h = (refl, h)
+
+pub o-bound : (b : Lent) (time : List ℕ) (allowed : Bool) (o : ℕ) → writing b time allowed o ≡ none → o ≤ lastNumber
+unfolding writing
+o-bound b time allowed o h =
+    let x = neither refusal.ShortBuffer (shortReply (b .reply) || shortNote (b .note)) _ h in
+    let y = neither refusal.BadTime (badGiven time) _ (x .1) in
+    let z = neither refusal.WrongPhase (not allowed) _ (y .1) in
+    ltb-false lastNumber o (not-refused refusal.NumbersUsed (ltb lastNumber o) (z .1))
+
+refused-anew : (st : State) (b : Lent) (w : What) (why : Refusal) → refusalOf st b w ≡ some why → anew w (Refused why) ≡ false
+unfolding refusalOf
+refused-anew st b (Own-call own time) why h = refl
+refused-anew st b Line-lost why h = refl
+refused-anew st b (Message time s) why h = refl
+refused-anew st b Offer why h = refl
+refused-anew st b Begin-again why h = none-some why h
+refused-anew st b (Acknowledge n) why h = refl
+refused-anew st b New-day why h = refl
+refused-anew st b (Restart notes) why h = none-some why h
+
+module _ (setup : Setup) where
+  acts-unrefused : (st : State) (b : Lent) (w : What) → isRestart w ≡ false → Safe (st .kept) → st .offered ≤ length (st .kept .slots) → refusalOf st b w ≡ none
+      → Acts st w (unrefused setup st w)
+  unfolding refusalOf unrefused
+  acts-unrefused st b (Own-call own time) r safe high h = acts-owned setup st time own (safe .sound .expected) (o-bound b time (mayCall own (st .phase)) (st .kept .o) h)
+  acts-unrefused st b Line-lost r safe high h = acts-lost st
+  acts-unrefused st b (Message time s) r safe high h = acts-message setup st time s safe (o-bound b time (isOn (st .phase)) (st .kept .o) h)
+  acts-unrefused st b Offer r safe high h = acts-offer st
+  acts-unrefused st b Begin-again r safe high h = acts-begin st (safe .sound .mark)
+  acts-unrefused st b (Acknowledge n) r safe high h =
+      let x = neither refusal.ShortBuffer (shortNote (b .note)) _ h in
+      acts-acknowledge st n high (ltb-false (st .offered) n (not-refused refusal.NotOffered (ltb (st .offered) n) (x .1)))
+  acts-unrefused st b New-day r safe high h =
+      let x = neither refusal.ShortBuffer (shortNote (b .note)) _ h in
+      let y = neither refusal.WrongPhase (isOn (st .phase)) _ (x .1) in
+      acts-day st safe (ltb-false (st .kept .acked) (length (st .kept .slots)) (not-refused refusal.StillWaiting (ltb (st .kept .acked) (length (st .kept .slots))) (y .1)))
+  acts-unrefused st b (Restart notes) r safe high h = contrary refl r
+
+  -- every call but a restart
+  pub acts : (st : State) (b : Lent) (w : What) → isRestart w ≡ false → Safe (st .kept) → st .offered ≤ length (st .kept .slots) → Acts st w (does setup st b w)
+  unfolding does
+  acts st b w r safe high = go (refusalOf st b w) refl
+    where
+      go : (o : Option Refusal) → refusalOf st b w ≡ o → Acts st w (unless-refused st o (unrefused setup st w))
+      go none e = acts-unrefused st b w r safe high e
+      go (some why) e = acts-quiet st w (Refused why) (refused-anew st b w why e) refl refl
