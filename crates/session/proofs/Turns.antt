@@ -2,7 +2,8 @@
 --     seq-read, facts-read, facts-read-in     the number that was read is 1 to 999,999,998, and 36's is at most 999,999,999
 --     report-turn     a report about which the book is asked is in its turn and faultless
 --     report-asked     of a faultless report in its turn the book is asked
---     settled-numbers     E and O are not lowered, and stay within nine digits
+--     judge-report, judge-asks     the same of a message by its pieces
+--     settled-numbers, own-numbers, rejected-numbers, passed-numbers     E and O are not lowered, and stay within nine digits
 use mathlib.Core.Path.{_≡_, refl, sym, ap, _∙_, subst}
 use mathlib.Core.Logic.{_⊎_, inl, inr, ⊎-elim}
 use mathlib.Core.List.{List}
@@ -19,6 +20,8 @@ use Rattle.value.specs.declared.Number.the-variants as number
 use Rattle.value.proofs.Numbers.{number-good, number-or-small}
 use Rattle.field.specs.Pieces.{Pieces, firstOf}
 use Rattle.field.specs.declared.Index.{Index}
+use Rattle.table.specs.Rows.{kindIn}
+use Rattle.table.specs.Steps.{faultIn}
 use Rattle.answer.specs.Numbers.{fault, inside, isKind, counted}
 use Rattle.answer.specs.declared.Setup.{Setup}
 use Rattle.answer.specs.declared.Phase.{Phase}
@@ -33,9 +36,10 @@ use Rattle.wire.specs.declared.Say.{Say}
 use Rattle.wire.specs.declared.Say.the-variants as say
 use Rattle.wire.specs.declared.Reply.{Reply}
 use Rattle.wire.specs.declared.Reply.the-variants.{Nothing, One, Two}
-use Rattle.session.specs.Session.{into, expecting, asking, raised, judged, isIn}
-use Rattle.session.specs.Judging.{Facts, ended, rejectedEnded, gapReply, answered, gapFill, numberIf, seqGiven, factsOf, factsIn, welcomed, logon, step3, resetMode, rejectedIf, rejected, passed, movedTo, loggedOut, effect, inTurn, belowIf, gap, due, step4, byPhase, step2, step1, judgedBy}
+use Rattle.session.specs.Session.{into, expecting, asking, raised, judged, isIn, says, ownCall}
+use Rattle.session.specs.Judging.{Facts, ended, rejectedEnded, gapReply, answered, gapFill, numberIf, seqGiven, idsGiven, factsOf, factsIn, welcomed, logon, step3, resetMode, rejectedIf, rejected, passed, movedTo, loggedOut, effect, inTurn, belowIf, gap, due, step4, byPhase, step2, step1, judgedBy, judge}
 use Rattle.session.specs.Indexed.{fieldBy, factsBy}
+use Rattle.session.specs.declared.Own.{Own}
 use Rattle.session.specs.declared.Session.{Session}
 use Rattle.session.specs.declared.Judged.{Judged}
 use Rattle.session.specs.declared.Verdict.{Verdict}
@@ -142,11 +146,17 @@ report-asked s m n t = ap (step1 s m) (t .seq) ∙ ap (step2 s n m) (t .ids) ∙
 
 -- ---- E and O
 
+-- neither is lowered, and both stay within nine digits
 pub record Onward (s next : Session) : Type 0 where
   pub e-up : s .e ≤ next .e
   pub e-most : next .e ≤ 999999999
   pub o-up : s .o ≤ next .o
   pub o-most : next .o ≤ 999999999
+
+-- "every other message we write uses one": O goes on by what is written
+pub record Settles (s : Session) (j : Judged) : Type 0 where
+  pub onward : Onward s (j .next)
+  pub used : j .next .o ≡ s .o + usedBy (j .reply)
 
 uses-most : (a : Say) → uses a ≤ 1
 uses-most a = of-cond (λ (n : ℕ). n ≤ 1) (isGapFill a) (λ e. omega arith) (λ e. omega arith)
@@ -156,47 +166,62 @@ used-most Nothing = omega arith
 used-most (One a) = omega (arith, uses-most a)
 used-most (Two a b) = omega (arith, uses-most a, uses-most b)
 
--- whatever is written, where E goes on so far
 module _ (s : Session) (o-small : s .o ≤ 999999997) where
-  pub onward : (o : Outcome) (reply : Reply) (next : Session) → next .o ≡ s .o → s .e ≤ next .e → next .e ≤ 999999999 → Onward s (judged o reply next .next)
-  onward o reply next e f g = record { e-up = f; e-most = g; o-up = omega (arith, used-most reply); o-most = omega (arith, used-most reply) }
+  -- whatever is written, where E goes on so far
+  pub settles : (o : Outcome) (reply : Reply) (next : Session) → next .o ≡ s .o → s .e ≤ next .e → next .e ≤ 999999999 → Settles s (judged o reply next)
+  settles o reply next e f g = record {
+    onward = record { e-up = f; e-most = g; o-up = omega (arith, used-most reply); o-most = omega (arith, used-most reply) };
+    used = omega (arith, used-most reply);
+  }
 
+  -- our own calls
+  pub own-numbers : (what : Own) → s .e ≤ 999999999 → Onward s (ownCall what s)
+  unfolding ownCall
+  own-numbers what g =
+      let h = used-most (One (says what)) in
+      record { e-up = omega arith; e-most = g; o-up = omega arith; o-most = omega arith }
+
+  -- a report that is told to the session again, as rejected or as passed
   module _ (e-small : s .e ≤ 999999998) where
-    pub rejected-numbers : (n : ℕ) (f : Fault) → Onward s (rejected s n f .next)
-    rejected-numbers n f = onward (outcome.Rejected f) (One (say.Reject n f)) (raised s) refl (omega arith) (omega arith)
+    pub rejected-numbers : (n : ℕ) (f : Fault) → Settles s (rejected s n f)
+    rejected-numbers n f = settles (outcome.Rejected f) (One (say.Reject n f)) (raised s) refl (omega arith) (omega arith)
 
-    pub passed-numbers : (o : Outcome) → Onward s (passed o s .next)
-    passed-numbers o = onward o Nothing (raised s) refl (omega arith) (omega arith)
+    pub passed-numbers : (o : Outcome) → Settles s (passed o s)
+    passed-numbers o = settles o Nothing (raised s) refl (omega arith) (omega arith)
+
+    -- "An in-order message raises E by 1"
+    pub raised-one : raised s .e ≡ s .e + 1
+    raised-one = omega arith
 
 abbrev Goes : Session → Verdict → Type 0
-Goes s (Settled j) = Onward s (j .next)
+Goes s (Settled j) = Settles s j
 Goes s (Report n) = Unit {0}
 
 module _ (s : Session) (o-small : s .o ≤ 999999997) (e-small : s .e ≤ 999999999) where
   -- E stays
-  stays : (o : Outcome) (reply : Reply) (next : Session) → next .o ≡ s .o → next .e ≡ s .e → Onward s (judged o reply next .next)
-  stays o reply next e f = onward s o-small o reply next e (omega arith) (omega arith)
+  stays : (o : Outcome) (reply : Reply) (next : Session) → next .o ≡ s .o → next .e ≡ s .e → Settles s (judged o reply next)
+  stays o reply next e f = settles s o-small o reply next e (omega arith) (omega arith)
 
-  ended-goes : Onward s (ended s .next)
+  ended-goes : Settles s (ended s)
   ended-goes = stays outcome.Ended (One say.Logout) (into phase.Ended s) refl refl
 
-  rejected-ended-goes : (n : ℕ) (f : Fault) → Onward s (rejectedEnded s n f .next)
+  rejected-ended-goes : (n : ℕ) (f : Fault) → Settles s (rejectedEnded s n f)
   rejected-ended-goes n f = stays (outcome.RejectedEnded f) (Two (say.Reject n f) say.Logout) (into phase.Ended s) refl refl
 
-  dropped-goes : Onward s (judged outcome.Dropped Nothing s .next)
+  dropped-goes : Settles s (judged outcome.Dropped Nothing s)
   dropped-goes = stays outcome.Dropped Nothing s refl refl
 
-  rejected-goes : (reset : Bool) (n : ℕ) (f : Fault) → (reset ≡ false → s .e ≤ 999999998) → Onward s (rejectedIf reset s n f .next)
+  rejected-goes : (reset : Bool) (n : ℕ) (f : Fault) → (reset ≡ false → s .e ≤ 999999998) → Settles s (rejectedIf reset s n f)
   unfolding rejectedIf
   rejected-goes true n f h = stays (outcome.Rejected f) (One (say.Reject n f)) s refl refl
   rejected-goes false n f h = rejected-numbers s o-small (h refl) n f
 
-  moved-goes : (to : ℕ) (reset : Bool) (n : ℕ) → to ≤ 999999999 → (reset ≡ false → s .e ≤ 999999998) → Onward s (movedTo to reset s n .next)
+  moved-goes : (to : ℕ) (reset : Bool) (n : ℕ) → to ≤ 999999999 → (reset ≡ false → s .e ≤ 999999998) → Settles s (movedTo to reset s n)
   unfolding movedTo
   moved-goes to reset n l h =
-      of-cond (λ (j : Judged). Onward s (j .next)) (ltb (s .e) to)
-      (λ t. (let g = ltb-true (s .e) to t in onward s o-small (outcome.Moved (to - s .e)) Nothing (expecting to s) refl (omega arith) l))
-      (λ t. of-cond (λ (j : Judged). Onward s (j .next)) (eqb to (s .e) && reset) (λ u. stays outcome.Heard Nothing s refl refl) (λ u. rejected-goes reset n (fault 5 36) h))
+      of-cond (Settles s) (ltb (s .e) to)
+      (λ t. (let g = ltb-true (s .e) to t in settles s o-small (outcome.Moved (to - s .e)) Nothing (expecting to s) refl (omega arith) l))
+      (λ t. of-cond (Settles s) (eqb to (s .e) && reset) (λ u. stays outcome.Heard Nothing s refl refl) (λ u. rejected-goes reset n (fault 5 36) h))
 
   module _ (m : Facts) (read : Read m) (n : ℕ) (seq : m .seq ≡ some n) where
     low : n ≡ s .e → s .e ≤ 999999998
@@ -206,12 +231,12 @@ module _ (s : Session) (o-small : s .o ≤ 999999997) (e-small : s .e ≤ 999999
     unfolding effect loggedOut
     effect-goes kind.Logon e h = passed-numbers s o-small (h (rw e)) outcome.Heard
     effect-goes kind.Heartbeat e h = passed-numbers s o-small (h (rw e)) outcome.Heard
-    effect-goes kind.Test e h = let l = h (rw e) in onward s o-small outcome.Echoed (One say.Echo) (raised s) refl (omega arith) (omega arith)
-    effect-goes kind.Resend e h = let l = h (rw e) in onward s o-small outcome.Filled (One (gapFill s m)) (raised s) refl (omega arith) (omega arith)
+    effect-goes kind.Test e h = let l = h (rw e) in settles s o-small outcome.Echoed (One say.Echo) (raised s) refl (omega arith) (omega arith)
+    effect-goes kind.Resend e h = let l = h (rw e) in settles s o-small outcome.Filled (One (gapFill s m)) (raised s) refl (omega arith) (omega arith)
     effect-goes kind.Reset e h = moved-goes (m .to) (resetMode m) n (read .to) h
     effect-goes kind.Logout e h =
         let l = h (rw e) in
-        onward s o-small outcome.Ended (cond (isIn (s .phase)) (One say.Logout) Nothing) (into phase.Ended (raised s)) refl (omega arith) (omega arith)
+        settles s o-small outcome.Ended (cond (isIn (s .phase)) (One say.Logout) Nothing) (into phase.Ended (raised s)) refl (omega arith) (omega arith)
     effect-goes kind.Report e h = tt
     effect-goes kind.Other e h = passed-numbers s o-small (h (rw e)) outcome.Heard
     effect-goes kind.Unlisted e h = passed-numbers s o-small (h (rw e)) outcome.Heard
@@ -224,25 +249,25 @@ module _ (s : Session) (o-small : s .o ≤ 999999997) (e-small : s .e ≤ 999999
     by-number : (r : Bool) → r || eqb n (s .e) ≡ true → r ≡ false → s .e ≤ 999999998
     by-number r t e = low (eqb-true n (s .e) (rw e at t))
 
-    gap-goes : Onward s (gap s m .next)
+    gap-goes : Settles s (gap s m)
     unfolding gap
     gap-goes =
         stays outcome.Gap (gapReply s (gapFill s m) (answered m) (due s m)) (cond (due s m) (asking s) s) (of-cond (λ (x : Session). x .o ≡ s .o) (due s m) (λ t. refl) (λ t. refl))
         (of-cond (λ (x : Session). x .e ≡ s .e) (due s m) (λ t. refl) (λ t. refl))
 
-    logon-goes : (f : Option Fault) → Onward s (logon s n f .next)
+    logon-goes : (f : Option Fault) → Settles s (logon s n f)
     logon-goes (some f) = rejected-ended-goes n f
     logon-goes none =
-        of-cond (λ (j : Judged). Onward s (j .next)) (eqb n (s .e))
-        (λ t. (let l = low (eqb-true n (s .e) t) in onward s o-small outcome.In Nothing (into phase.In (raised s)) refl (omega arith) (omega arith)))
+        of-cond (Settles s) (eqb n (s .e))
+        (λ t. (let l = low (eqb-true n (s .e) t) in settles s o-small outcome.In Nothing (into phase.In (raised s)) refl (omega arith) (omega arith)))
         (λ t. stays outcome.In (One (say.Resend (s .e))) (into phase.In (asking s)) refl refl)
 
-    step3-goes : Onward s (step3 s n m .next)
+    step3-goes : Settles s (step3 s n m)
     unfolding step3
     step3-goes =
-        of-cond (λ (j : Judged). Onward s (j .next)) (isKind (m .kind) kind.Logon && leb (s .e) n) (λ t. logon-goes (m .fault)) (λ t. ended-goes)
+        of-cond (Settles s) (isKind (m .kind) kind.Logon && leb (s .e) n) (λ t. logon-goes (m .fault)) (λ t. ended-goes)
 
-    below-goes : (again : Bool) → Onward s (belowIf again s .next)
+    below-goes : (again : Bool) → Settles s (belowIf again s)
     below-goes true = dropped-goes
     below-goes false = ended-goes
 
@@ -250,7 +275,7 @@ module _ (s : Session) (o-small : s .o ≤ 999999997) (e-small : s .e ≤ 999999
     unfolding step4
     step4-goes =
         of-cond (Goes s) (resetMode m || eqb n (s .e)) (λ t. turn-goes (m .fault) (by-number (resetMode m) t))
-        (λ t. of-cond (λ (j : Judged). Onward s (j .next)) (ltb n (s .e)) (λ u. below-goes (m .again)) (λ u. gap-goes))
+        (λ t. of-cond (Settles s) (ltb n (s .e)) (λ u. below-goes (m .again)) (λ u. gap-goes))
 
     phase-goes : (p : Phase) → Goes s (byPhase p s n m)
     unfolding byPhase
@@ -268,6 +293,36 @@ module _ (s : Session) (o-small : s .o ≤ 999999997) (e-small : s .e ≤ 999999
   seq-goes m read none e = ended-goes
   seq-goes m read (some n) e = ids-goes m read n e (m .ids)
 
-  pub settled-numbers : (m : Facts) → Read m → (j : Judged) → judgedBy s m ≡ Settled j → Onward s (j .next)
+  pub settled-numbers : (m : Facts) → Read m → (j : Judged) → judgedBy s m ≡ Settled j → Settles s j
   unfolding judgedBy
   settled-numbers m read j e = subst (Goes s) e (seq-goes m read (m .seq) refl)
+
+-- ---- by the pieces of a message
+module _ (setup : Setup) (s : Session) (ps : Pieces) where
+  -- a faultless report in its turn
+  pub record ReportIn (n : ℕ) : Type 0 where
+    pub seq : seqGiven (firstOf 34 ps) ≡ some n
+    pub ids : idsGiven setup (firstOf 49 ps) (firstOf 56 ps) ≡ none
+    pub phase : inside (s .phase) ≡ true
+    pub number : n ≡ s .e
+    pub kind : kindIn setup ps ≡ kind.Report
+    pub fault : faultIn setup (s .phase) (s .o) ps ≡ none
+    pub least : 1 ≤ n
+    pub most : n ≤ 999999998
+
+  pub judge-report : (n : ℕ) → judge setup s ps ≡ Report n → ReportIn n
+  unfolding judge factsIn factsOf
+  judge-report n e =
+      let t = report-turn s (factsIn setup s ps) n e in
+      let l = seq-read (firstOf 34 ps) n (t .seq) in
+      record { seq = t .seq; ids = t .ids; phase = t .phase; number = t .number; kind = t .kind; fault = t .fault; least = l .0; most = l .1 }
+
+  pub judge-asks : (n : ℕ) → seqGiven (firstOf 34 ps) ≡ some n → idsGiven setup (firstOf 49 ps) (firstOf 56 ps) ≡ none → inside (s .phase) ≡ true → n ≡ s .e
+      → kindIn setup ps ≡ kind.Report → faultIn setup (s .phase) (s .o) ps ≡ none → judge setup s ps ≡ Report n
+  unfolding judge factsIn factsOf
+  judge-asks n seq ids p e k f = report-asked s (factsIn setup s ps) n (record { seq = seq; ids = ids; phase = p; number = e; kind = k; fault = f })
+
+  -- what is settled, in a call that refusal 4 does not refuse
+  pub judge-settles : s .o ≤ 999999997 → s .e ≤ 999999999 → (j : Judged) → judge setup s ps ≡ Settled j → Settles s j
+  unfolding judge
+  judge-settles o-small e-small j e = settled-numbers s o-small e-small (factsIn setup s ps) (facts-read-in setup s ps) j e

@@ -63,6 +63,30 @@ pub enum Verdict {
 // The last number of four bytes, where E and O stop. Refusal 4 and step 1 come long before.
 const LAST_NUMBER: u32 = 4294967295;
 
+// The tags that the judging reads: the type, the number, the two IDs, `43=Y`, `123=Y`, the numbers of a Resend Request and of a Sequence Reset; and 112.
+const TYPE: u32 = 35;
+
+const NUMBER: u32 = 34;
+
+const SENDER: u32 = 49;
+
+const TARGET: u32 = 56;
+
+const AGAIN: u32 = 43;
+
+const FILLING: u32 = 123;
+
+const FROM: u32 = 7;
+
+const UP_TO: u32 = 16;
+
+const TO: u32 = 36;
+
+const WORD: u32 = 112;
+
+// The last number that a message has.
+const LAST_SEQUENCE: u32 = 999_999_998;
+
 // A number counted on.
 fn count_on(n: u32, k: u32) -> u32
     ensures { λ r. ⌜ r ≡ counted n k ⌝ }
@@ -328,7 +352,7 @@ impl Session {
     {
         let fault = Fault {
             reason: 5,
-            tag: 36,
+            tag: TO,
             at: 0,
         };
         if self.e < to {
@@ -464,10 +488,10 @@ fn sequence<'a>(
 ) -> Number
     ensures { λ r. ⌜ numberIf r ≡ seqGiven (fieldIn (now (body .entry)) (now (start .entry)) (now (len .entry)) (now (count .entry)) 34) ⌝ }
 {
-    if field::count_at(body, count, 34) == 0 {
+    if field::count_at(body, count, NUMBER) == 0 {
         return Number::OutOfRange;
     }
-    value::read_number(field::value_at(body, start, len, 34), 1, 999_999_998)
+    value::read_number(field::value_at(body, start, len, NUMBER), 1, LAST_SEQUENCE)
 }
 
 // Step 2: "The first `49=` and then `56=` are the agreed IDs. Else Reject 9 naming that tag".
@@ -482,11 +506,11 @@ fn ids_fault<'a>(
 {
     let theirs = setup.theirs;
     let ours = setup.ours;
-    if !has_id(body, start, len, count, 49, theirs) {
-        return wrong_id(49);
+    if !has_id(body, start, len, count, SENDER, theirs) {
+        return wrong_id(SENDER);
     }
-    if !has_id(body, start, len, count, 56, ours) {
-        return wrong_id(56);
+    if !has_id(body, start, len, count, TARGET, ours) {
+        return wrong_id(TARGET);
     }
     Judgement::Fine
 }
@@ -505,7 +529,7 @@ fn wrong_id(tag: u32) -> Judgement
 fn kind_in<'a>(setup: Setup, body: &[u8], start: &'a [usize; TAGS], len: &'a [usize; TAGS]) -> Kind
     ensures { λ r. ⌜ r ≡ kindOf setup (valueIn (now (body .entry)) (now (start .entry)) (now (len .entry)) 35) ⌝ }
 {
-    table::kind_of(setup, field::value_at(body, start, len, 35))
+    table::kind_of(setup, field::value_at(body, start, len, TYPE))
 }
 
 // "type 4 without `123=Y`": reset mode.
@@ -513,7 +537,7 @@ fn is_reset(kind: Kind, body: &[u8], ix: Index) -> bool
     ensures { λ r. ⌜ r ≡ isKind kind kinds.Reset && not (yes (fieldBy (now (body .entry)) ix 123)) ⌝ }
 {
     if is_kind(kind, Kind::Reset) {
-        return !is_yes(body, &ix.start, &ix.len, &ix.count, 123);
+        return !is_yes(body, &ix.start, &ix.len, &ix.count, FILLING);
     }
     false
 }
@@ -543,8 +567,8 @@ impl Session {
     fn gap_fill(self, body: &[u8], ix: Index) -> Say
         ensures { λ r. ⌜ r ≡ say.GapFill (numberIn (now (body .entry)) (ix .start) (ix .len) 7) (filledTo (self .o) (numberIn (now (body .entry)) (ix .start) (ix .len) 16)) ⌝ }
     {
-        let from = table::number_at(body, &ix.start, &ix.len, 7);
-        let last = table::number_at(body, &ix.start, &ix.len, 16);
+        let from = table::number_at(body, &ix.start, &ix.len, FROM);
+        let last = table::number_at(body, &ix.start, &ix.len, UP_TO);
         Say::GapFill(from, filled_to(self.o, last))
     }
 
@@ -566,7 +590,7 @@ impl Session {
             }
             Kind::Reset => {
                 let reset = is_reset(kind, body, ix);
-                let to = table::number_at(body, &ix.start, &ix.len, 36);
+                let to = table::number_at(body, &ix.start, &ix.len, TO);
                 Verdict::Settled(self.moved(to, reset, n))
             }
             Kind::Logout => Verdict::Settled(self.logged_out()),
@@ -610,7 +634,7 @@ impl Session {
         ensures { λ r. ⌜ r ≡ gap self (factsBy setup self (now (body .entry)) ix) ⌝ }
     {
         let kind = kind_in(setup, body, &ix.start, &ix.len);
-        let again = is_yes(body, &ix.start, &ix.len, &ix.count, 43);
+        let again = is_yes(body, &ix.start, &ix.len, &ix.count, AGAIN);
         let due = self.is_due(again, kind);
         if self.is_answered(kind, setup, body, ix) {
             let fill = self.gap_fill(body, ix);
@@ -652,7 +676,7 @@ impl Session {
             return self.in_turn(n, setup, body, ix);
         }
         if n < self.e {
-            let again = is_yes(body, &ix.start, &ix.len, &ix.count, 43);
+            let again = is_yes(body, &ix.start, &ix.len, &ix.count, AGAIN);
             return Verdict::Settled(self.below(again));
         }
         Verdict::Settled(self.gap(setup, body, ix))
@@ -708,8 +732,8 @@ pub fn word_tag(reply: Reply) -> u32
     ensures { λ r. ⌜ r ≡ wordTag reply ⌝ }
 {
     match reply {
-        Reply::Nothing => 35,
-        Reply::One(a) => if echoes(a) { 112 } else { 35 },
-        Reply::Two(_, _) => 35,
+        Reply::Nothing => TYPE,
+        Reply::One(a) => if echoes(a) { WORD } else { TYPE },
+        Reply::Two(_, _) => TYPE,
     }
 }
