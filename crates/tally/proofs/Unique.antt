@@ -11,5 +11,6 @@ new-once p q = p ∙ sym q
 pub count-once : (count : Tally → Tally) (t : Tally) {r r′ : Tally} → r ≡ count t → r′ ≡ count t → r ≡ r′
 count-once count t p q = p ∙ sym q
 
+-- by what became of a message: by value (after) and lent (count: r is the tally at exit, t at entry)
 pub after-once : (o : Outcome) (t : Tally) {r r′ : Tally} → r ≡ tallied o t → r′ ≡ tallied o t → r ≡ r′
 after-once o t p q = p ∙ sym q

@@ -119,3 +119,24 @@ pub fn count_garbled(t: &mut Tally)
 {
     *t = (*t).one_garbled();
 }
+
+// The lent tally after a framed message, by what became of it.
+pub fn count(t: &mut Tally, outcome: Outcome)
+    ensures { λ _. ⌜ now (t .exit) ≡ tallied outcome (now (t .entry)) ⌝ }
+{
+    match outcome {
+        Outcome::Booked(_, _) => count_booked(t),
+        Outcome::Already => count_already(t),
+        Outcome::Rejected(_) => count_rejected(t),
+        Outcome::RejectedEnded(_) => count_rejected(t),
+        Outcome::Ended => {}
+        Outcome::Dropped => {}
+        Outcome::Gap => {}
+        Outcome::In => {}
+        Outcome::Heard => {}
+        Outcome::Echoed => {}
+        Outcome::Filled => {}
+        Outcome::Moved(_) => {}
+        Outcome::Aside => {}
+    }
+}
