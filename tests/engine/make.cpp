@@ -46,22 +46,12 @@ static void give(const string& bytes) { call("message " + CLOCK + " " + coded(by
 
 // ---- messages
 
-static FIX::Message sentTo(FIX::Message m, const string& firm)
+static FIX::Message sent(FIX::Message m)
 {
     m.getHeader().setField(FIX::SenderCompID("SPHR"));
-    m.getHeader().setField(FIX::TargetCompID(firm));
+    m.getHeader().setField(FIX::TargetCompID("FIRM"));
     m.getHeader().setField(FIX::SendingTime(SENT, 3));
     return m;
-}
-
-static FIX::Message sent(const FIX::Message& m) { return sentTo(m, "FIRM"); }
-
-static FIX::Message typed(const string& type)
-{
-    FIX::Message m;
-    m.getHeader().setField(FIX::BeginString("FIX.4.2"));
-    m.getHeader().setField(FIX::MsgType(type));
-    return sent(m);
 }
 
 static string numbered(FIX::Message m, int n)
@@ -107,6 +97,20 @@ static FIX::Message fill(const string& exec, const string& order, const string& 
     m.set(FIX::LastShares(last));
     m.set(FIX::LastPx(price));
     m.set(FIX::TransactTime(TRADED, 3));
+    return sent(m);
+}
+
+// a Trade Cancel of the exchange's own type
+static FIX::Message correction()
+{
+    FIX::Message m;
+    m.getHeader().setField(FIX::BeginString("FIX.4.2"));
+    m.getHeader().setField(FIX::MsgType("UCC"));
+    m.setField(FIX::ExecID("X1"));
+    m.setField(FIX::OrderID("7001"));
+    m.setField(FIX::ExecTransType('1'));
+    m.setField(9020, "1");
+    m.setField(9021, "1");
     return sent(m);
 }
 
@@ -234,7 +238,7 @@ static void faults()
 static void session()
 {
     send(with(sent(FIX42::BusinessMessageReject(FIX::RefMsgType("8"), FIX::BusinessRejectReason(3))), FIX::RefSeqNum(2)));
-    send(typed("UCC"));
+    send(correction());
     send(sent(FIX42::News(FIX::Headline("closing soon"))));
     send(logon());
     send(without(test("x"), FIX::FIELD::TestReqID));
