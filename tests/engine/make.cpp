@@ -1,7 +1,6 @@
 // Writes engine.script: a day of the drop session in the replay language, with every message of the exchange made by QuickFIX.
 // The lines between are calls of ours. The story: log on, fills, a crash with a torn note, the repair, a failover's copies, a gap whose
 // repair is garbled, faults of every kind, resets, the ways in which a session ends, the queue, a new day.
-#include <cstdio>
 #include <string>
 #include <quickfix/Message.h>
 #include <quickfix/fix42/BusinessMessageReject.h>
@@ -14,6 +13,7 @@
 #include <quickfix/fix42/ResendRequest.h>
 #include <quickfix/fix42/SequenceReset.h>
 #include <quickfix/fix42/TestRequest.h>
+#include "code.h"
 
 using std::string;
 
@@ -26,21 +26,6 @@ static int number = 1;                                                  // the e
 // ---- lines of the script
 
 static void call(const string& line) { printf("%s\n", line.c_str()); }
-
-// bytes as a word of the replay language
-static string coded(const string& bytes)
-{
-    string word;
-    for (unsigned char c : bytes)
-    {
-        char hex[4];
-        snprintf(hex, sizeof hex, "\\%02x", c);
-        if (c == 1) word += '|';
-        else if (c >= 33 && c <= 126 && c != '|' && c != '\\') word += char(c);
-        else word += hex;
-    }
-    return word;
-}
 
 static void give(const string& bytes) { call("message " + CLOCK + " " + coded(bytes)); }
 

@@ -1,36 +1,18 @@
 // Reads the messages that the receiver writes with QuickFIX, and compares: standard input has a reply on each line, in the code of the replay
 // language (`|` is byte 1, `\hh` a byte in hex), one message or several. QuickFIX's stream parser must cut the reply into its messages and leave
 // nothing over; its message parser must accept length and checksum; and every field must have the value that stands in the line.
-#include <cstdio>
-#include <cstdlib>
 #include <iostream>
 #include <map>
 #include <stdexcept>
 #include <string>
-#include <vector>
 #include <quickfix/Message.h>
 #include <quickfix/Parser.h>
+#include "code.h"
 
 using std::string;
 using std::runtime_error;
 
 typedef std::map<int, string> Fields;
-
-static string decoded(const string& word)
-{
-    string bytes;
-    for (size_t i = 0; i < word.size(); i++)
-    {
-        if (word[i] == '|') bytes += '\001';
-        else if (word[i] != '\\') bytes += word[i];
-        else
-        {
-            bytes += char(strtol(word.substr(i + 1, 2).c_str(), 0, 16));
-            i += 2;
-        }
-    }
-    return bytes;
-}
 
 static void put(Fields& fields, int tag, const string& value)
 {
