@@ -42,8 +42,8 @@ use Rattle.report.proofs.Kept.{fill-told}
 use Rattle.report.proofs.Lawful.{Lawful, report-lawful}
 use Rattle.queue.specs.Queue.{shortNote}
 use Rattle.session.specs.Session.{says, isOn, mayCall, into, phaseAfter, ownCall, lineLost}
-use Rattle.session.specs.Judging.{Facts, factsOf, factsIn, judge, rejected, passed}
-use Rattle.session.proofs.Turns.{Onward, onward, rejected-numbers, passed-numbers, facts-read-in, report-turn, settled-numbers}
+use Rattle.session.specs.Judging.{judge, rejected, passed}
+use Rattle.session.proofs.Turns.{Onward, own-numbers, rejected-numbers, passed-numbers, judge-report, judge-settles}
 use Rattle.session.specs.declared.Own.{Own}
 use Rattle.session.specs.declared.Session.{Session}
 use Rattle.session.specs.declared.Judged.{Judged}
@@ -151,10 +151,10 @@ acts-session st w a t reply says f e g u =
     }
 
 acts-owned : (setup : Setup) (st : State) (time : List ℕ) (own : Own) → st .kept .e ≤ top → st .kept .o ≤ lastNumber → Acts st (Own-call own time) (owned setup st time own)
-unfolding owned ownCall
+unfolding owned
 acts-owned setup st time own a b =
     acts-session st (Own-call own time) Done (ownCall own (sessionOf st)) _ (λ n h. h)
-    (onward (sessionOf st) b outcome.Heard (One (says own)) (into (phaseAfter own) (sessionOf st)) refl (omega arith) a)
+    (own-numbers (sessionOf st) b own a)
     refl refl refl
 
 acts-lost : (st : State) → Acts st Line-lost (lost st)
@@ -177,10 +177,10 @@ module _ (setup : Setup) (st : State) (time s : List ℕ) (safe : Safe (st .kept
   acts-settled len ps j f u = acts-session st (Message time s) (Framed len (j .outcome)) (j .next) _ (λ n h. h) f refl refl u
 
   acts-passed : (len : ℕ) (ps : Pieces) (o : Outcome) → st .kept .e < top → numberBooked o ≡ none → Acts st (Message time s) (settled setup st time len ps (passed o (sessionOf st)))
-  acts-passed len ps o l u = acts-settled len ps (passed o (sessionOf st)) (passed-numbers (sessionOf st) o-most (omega arith) o) u
+  acts-passed len ps o l u = acts-settled len ps (passed o (sessionOf st)) (passed-numbers (sessionOf st) o-most (omega arith) o .onward) u
 
   acts-rejected : (len : ℕ) (ps : Pieces) (n : ℕ) (f : Fault) → st .kept .e < top → Acts st (Message time s) (settled setup st time len ps (rejected (sessionOf st) n f))
-  acts-rejected len ps n f l = acts-settled len ps (rejected (sessionOf st) n f) (rejected-numbers (sessionOf st) o-most (omega arith) n f) refl
+  acts-rejected len ps n f l = acts-settled len ps (rejected (sessionOf st) n f) (rejected-numbers (sessionOf st) o-most (omega arith) n f .onward) refl
 
   books-law : (f : Slot) → st .kept .e < top → slotLawful f ≡ true → place (st .kept .slots) f ≡ placed.New → hasRoom (st .kept .slots) (st .kept .orders) f ≡ true
       → lawful (st .kept) (bookingNote st f) ≡ true
@@ -232,15 +232,12 @@ module _ (setup : Setup) (st : State) (time s : List ℕ) (safe : Safe (st .kept
       acts-placed len ps n (place (st .kept .slots) (slotIn ps)) l (law (fill-told (reportIn ps) e .0)) refl
 
   acts-judged : (len : ℕ) (ps : Pieces) (v : Verdict) → judge setup (sessionOf st) ps ≡ v → Acts st (Message time s) (judgedBy setup st time len ps v)
-  unfolding judgedBy judge factsIn factsOf
+  unfolding judgedBy
   acts-judged len ps (Settled j) e =
-      let m : Facts = factsIn setup (sessionOf st) ps in
-      acts-settled len ps j (settled-numbers (sessionOf st) o-most (safe .sound .expected) m (facts-read-in setup (sessionOf st) ps) j e)
-      (settled-unbooked setup (sessionOf st) ps j e)
+      acts-settled len ps j (judge-settles setup (sessionOf st) ps o-most (safe .sound .expected) j e .onward) (settled-unbooked setup (sessionOf st) ps j e)
   acts-judged len ps (Report n) e =
-      let m : Facts = factsIn setup (sessionOf st) ps in
-      let t = report-turn (sessionOf st) m n e in
-      let small = facts-read-in setup (sessionOf st) ps .seq n (t .seq) .1 in
+      let t = judge-report setup (sessionOf st) ps n e in
+      let small = t .most in
       let low : st .kept .e < top = let z : n ≡ st .kept .e = t .number in omega arith in
       acts-ruled len ps n (reportedIn ps) refl low (report-lawful setup (st .phase) (st .kept .o) ps (t .fault) (t .kind))
 

@@ -8,3 +8,5 @@ pub mod Good
 pub mod Waiting
 pub mod Between
 pub mod Surviving
+pub mod Booking
+pub mod Refusing

@@ -1,1 +1,1 @@
-// No code: what the definitions of the other crates promise together. The paper's worked cases are in specs/, their proofs in proofs/.
+// No code: what the definitions of the other crates promise together. The three demands and the worked cases of the paper are in specs/, their proofs in proofs/.
