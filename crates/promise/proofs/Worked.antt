@@ -1,11 +1,8 @@
 -- The paper's worked cases hold of the definitions, each by computation.
-use Rattle.frame.specs.Finding.{skipOf, bodyOk, judgeWhole, judgeLength, judgeDigits, judge, foundBy}
-use Rattle.value.specs.Value.{numberOr, badPrice, priceIn, badTime, leap, daysIn, isDay, timeFits}
-use Rattle.value.specs.Readers.{priceRead, timeChecked}
-use Rattle.field.specs.Pieces.{piecesOf, carries, valuesOf}
-use Rattle.report.specs.Report.{reportOf, ruleFault}
+use mathlib.Core.Path.{refl}
 use Rattle.promise.specs.Cases.{All, cases}
 
 pub all-cases : All cases
-unfolding numberOr piecesOf carries valuesOf reportOf ruleFault skipOf bodyOk judgeWhole judgeLength judgeDigits judge foundBy badPrice priceIn badTime leap daysIn isDay timeFits priceRead timeChecked
-all-cases = search (tt) depth 60
+unfolding Rattle.answer.specs.Setup.idWith Rattle.field.specs.Pieces.piecesOf Rattle.field.specs.Pieces.carries Rattle.field.specs.Pieces.valuesOf Rattle.field.specs.Pieces.pieceScan Rattle.field.specs.Pieces.scanOf Rattle.frame.specs.Finding.skipOf Rattle.frame.specs.Finding.bodyOk Rattle.frame.specs.Finding.judgeWhole Rattle.frame.specs.Finding.judgeLength Rattle.frame.specs.Finding.judgeDigits Rattle.frame.specs.Finding.judge Rattle.frame.specs.Finding.foundBy Rattle.frame.specs.Finding.bodyBy Rattle.octet.specs.Places.numberBytes Rattle.octet.specs.Places.numberIn Rattle.octet.specs.Splice.splice Rattle.receiver.specs.Calls.owned Rattle.receiver.specs.Calls.lost Rattle.receiver.specs.Calls.settled Rattle.receiver.specs.Calls.booked Rattle.receiver.specs.Calls.bookedOr Rattle.receiver.specs.Calls.placedFill Rattle.receiver.specs.Calls.ruled Rattle.receiver.specs.Calls.judgedBy Rattle.receiver.specs.Calls.framed Rattle.receiver.specs.Calls.foundTo Rattle.receiver.specs.Calls.message Rattle.receiver.specs.Calls.offer Rattle.receiver.specs.Calls.beginAgain Rattle.receiver.specs.Calls.acknowledge Rattle.receiver.specs.Calls.newDay Rattle.receiver.specs.Calls.restarted Rattle.receiver.specs.Receiver.settingUp Rattle.receiver.specs.Receiver.badGiven Rattle.receiver.specs.Receiver.writing Rattle.receiver.specs.Receiver.refusalOf Rattle.receiver.specs.Receiver.unrefused Rattle.receiver.specs.Receiver.does Rattle.receiver.specs.Receiver.call Rattle.receiver.specs.State.seen Rattle.receiver.specs.State.stored Rattle.receiver.specs.State.bookWith Rattle.receiver.specs.State.noteOfChange Rattle.receiver.specs.State.toldOf Rattle.receiver.specs.State.replyAfter Rattle.receiver.specs.State.noteAfter Rattle.receiver.specs.State.lineAfter Rattle.receiver.specs.State.bookAfter Rattle.session.specs.Judging.factsOf Rattle.session.specs.Judging.factsIn Rattle.session.specs.Judging.step3 Rattle.session.specs.Judging.rejectedIf Rattle.session.specs.Judging.filledTo Rattle.session.specs.Judging.movedTo Rattle.session.specs.Judging.loggedOut Rattle.session.specs.Judging.effect Rattle.session.specs.Judging.inTurn Rattle.session.specs.Judging.dueBy Rattle.session.specs.Judging.gap Rattle.session.specs.Judging.step4 Rattle.session.specs.Judging.byPhase Rattle.session.specs.Judging.judgedBy Rattle.session.specs.Judging.judge Rattle.session.specs.Session.ownCall Rattle.table.specs.Rows.kindOf Rattle.table.specs.Steps.badForm Rattle.table.specs.Steps.inRange Rattle.table.specs.Steps.fits Rattle.table.specs.Steps.rowFault Rattle.table.specs.Steps.walk Rattle.table.specs.Steps.firstFault Rattle.table.specs.Steps.faultIn Rattle.text.specs.Decimal.digitsAtFront Rattle.text.specs.Decimal.decimalBy Rattle.text.specs.Decimal.decimal Rattle.text.specs.Decimal.priceText Rattle.text.specs.Fields.fieldBytes Rattle.text.specs.Writing.empty Rattle.text.specs.Writing.puts Rattle.text.specs.Writing.held Rattle.value.specs.Readers.numberRead Rattle.value.specs.Readers.priceFront Rattle.value.specs.Readers.priceRead Rattle.value.specs.Readers.timeChecked Rattle.value.specs.Readers.graphChecked Rattle.value.specs.Readers.textChecked Rattle.value.specs.Readers.codeChecked Rattle.value.specs.Value.badNumber Rattle.value.specs.Value.numberOr Rattle.value.specs.Value.badGraph Rattle.value.specs.Value.badPrice Rattle.value.specs.Value.priceIn Rattle.value.specs.Value.badTime Rattle.value.specs.Value.leap Rattle.value.specs.Value.daysIn Rattle.value.specs.Value.isDay Rattle.value.specs.Value.timeFits Rattle.wire.specs.Messages.headed Rattle.wire.specs.Messages.framed Rattle.wire.specs.Messages.headerOf Rattle.wire.specs.Messages.messageOf Rattle.wire.specs.Messages.replyOf Rattle.report.specs.Report.reportOf Rattle.report.specs.Report.ruleFault
+all-cases =
+    (refl, (refl, (refl, (refl, (record { answer = refl; phase = refl; expected = refl; written = refl }, (record { answer = refl; phase = refl; expected = refl; written = refl }, (record { answer = refl; phase = refl; expected = refl; written = refl }, (record { answer = refl; phase = refl; expected = refl; written = refl }, (record { answer = refl; phase = refl; expected = refl; written = refl }, (record { answer = refl; phase = refl; expected = refl; written = refl }, (record { answer = refl; phase = refl; expected = refl; written = refl }, (refl, (refl, ((refl, refl), ((refl, refl), (refl, (refl, tt)))))))))))))))))
