@@ -10,3 +10,4 @@ pub mod Between
 pub mod Surviving
 pub mod Booking
 pub mod Refusing
+pub mod Orders
