@@ -1,21 +1,20 @@
 -- What one call does to what is kept, by its note; to the marks, and to what was shown; and that it says that it booked a fill exactly where it did.
-use Prim.Native.Nat.{ℕ, zero, suc, _+_, _-_, _≤_, _<_}
+use Prim.Native.Nat.{ℕ, suc, _+_, _-_, _≤_, _<_}
 use mathlib.Core.Path.{_≡_, refl, sym, ap, ap₂, _∙_, subst}
-use mathlib.Core.Logic.{_⊎_, ⊎-elim, _↔_}
-use mathlib.Core.List.{List, [], _∷_, _++_, append-assoc, append-nil}
+use mathlib.Core.Logic.{⊎-elim}
+use mathlib.Core.List.{List, [], _∷_, _++_, append-nil}
 use mathlib.Core.Option.{Option, none, some}
-use mathlib.Core.Bool.{Bool, true, false, cond, _&&_, _||_, not}
+use mathlib.Core.Bool.{Bool, true, false, _&&_, _||_, not}
 use native.Mathlib.Nat.{suc-ne-zero}
 use native.Mathlib.Omega.{arith}
 use lib.ListN.{length, take, drop, getD, length-append, length-drop, length-take}
 use lib.Seq.{take-append-le, drop-append-le, take-suc, getD-drop}
 use lib.Dec.{leb, ltb, eqb}
-use borrow.Author.Tests.{ltb-true, ltb-false, leb-false, leb-true, eqb-true, eqb-false, eq-eqb, lt-ltb, le-leb}
+use borrow.Author.Tests.{ltb-false, leb-false, eqb-true, eqb-false, eq-eqb, lt-ltb, le-leb}
 use Rattle.octet.specs.Maybe.{orElse, first}
-use Rattle.octet.proofs.Cases.{of-cond, contrary, and-both, and-make, and-fails, or-left, or-right}
+use Rattle.octet.proofs.Cases.{of-cond, contrary, and-both, and-fails, or-left, or-right}
 use Rattle.answer.specs.declared.Setup.{Setup}
 use Rattle.answer.specs.declared.Fault.{Fault}
-use Rattle.answer.specs.declared.Kind.the-variants as kind
 use Rattle.answer.specs.declared.Outcome.{Outcome}
 use Rattle.answer.specs.declared.Outcome.the-variants as outcome
 use Rattle.answer.specs.declared.Refusal.{Refusal}
@@ -23,25 +22,20 @@ use Rattle.answer.specs.declared.Refusal.the-variants as refusal
 use Rattle.frame.specs.Finding.{foundIn, bodyIn}
 use Rattle.frame.specs.declared.Found.{Found}
 use Rattle.frame.specs.declared.Found.the-variants as found
-use Rattle.field.specs.Pieces.{Pieces, piecesOf, textAt}
-use Rattle.table.specs.Rows.{kindIn}
-use Rattle.table.specs.Steps.{faultIn}
-use Rattle.wire.specs.Messages.{replyOf}
-use Rattle.wire.specs.declared.Reply.the-variants.{One}
+use Rattle.field.specs.Pieces.{Pieces, piecesOf}
 use Rattle.fill.specs.Slot.{Slot, lineOf, slotLawful, fillMark}
-use Rattle.book.specs.Place.{place, isNew, hasRoom, inStep}
+use Rattle.book.specs.Place.{place, isNew, hasRoom}
 use Rattle.book.specs.declared.Placed.{Placed}
 use Rattle.book.specs.declared.Placed.the-variants as placed
-use Rattle.note.specs.Notes.{Note, Leaves, Books, Marks, Clears}
+use Rattle.note.specs.Notes.{Note, Leaves, Marks, Clears}
 use Rattle.note.specs.Kept.{Kept, empty, top, bookable, lawful, after}
-use Rattle.note.proofs.Reading.{IsSlot}
 use Rattle.report.specs.Report.{reportIn, reportedIn, slotIn, ruleFault}
 use Rattle.report.specs.declared.Reported.{Reported}
 use Rattle.report.specs.declared.Reported.the-variants as reported
 use Rattle.report.proofs.Kept.{fill-told}
 use Rattle.report.proofs.Lawful.{Lawful, report-lawful}
 use Rattle.queue.specs.Queue.{shortNote}
-use Rattle.session.specs.Session.{says, isOn, mayCall, into, phaseAfter, ownCall, lineLost}
+use Rattle.session.specs.Session.{says, isOn, mayCall, ownCall, lineLost}
 use Rattle.session.specs.Judging.{judge, rejected, passed}
 use Rattle.session.proofs.Turns.{Onward, own-numbers, rejected-numbers, passed-numbers, judge-report, judge-settles}
 use Rattle.session.specs.declared.Own.{Own}
@@ -53,11 +47,11 @@ use Rattle.receiver.specs.State.{State, woken, Did, quiet, noting, sessionOf, w
 use Rattle.receiver.specs.Calls.{owned, lost, settled, bookingNote, booked, bookedOr, placedFill, ruled, judgedBy, framed, foundTo, message, offerOf, offer, beginAgain, acknowledge, isEmpty, newDay}
 use Rattle.receiver.specs.Receiver.{What, Own-call, Line-lost, Message, Offer, Begin-again, Acknowledge, New-day, Restart, Lent, refuse, shortReply, badGiven, lastNumber, writing, refusalOf, unrefused, unless-refused, does}
 use Rattle.receiver.specs.declared.Answer.{Answer}
-use Rattle.receiver.specs.declared.Answer.the-variants.{Done, Refused, More, Garbled, Framed, Offered, None, Acked, Already}
+use Rattle.receiver.specs.declared.Answer.the-variants.{Done, Refused, More, Garbled, Framed, None, Acked, Already}
 use Rattle.promise.specs.World.{isRestart, gave, Shown, showing, anew, linesOf}
-use Rattle.promise.specs.Demand3.{Booking, numberBooked, numberTold}
-use Rattle.promise.proofs.Executions.{none-some, no-snoc, no-empty, lines-append, lines-length}
-use Rattle.promise.proofs.Chain.{sessional, Says, Noted, NoteSays, Tells, Safe}
+use Rattle.promise.specs.Demand3.{numberBooked, numberTold}
+use Rattle.promise.proofs.Executions.{none-some, no-snoc, no-empty, lines-append}
+use Rattle.promise.proofs.Chain.{sessional, Says, NoteSays, Tells, Safe}
 use Rattle.promise.proofs.Unbooked.{settled-unbooked}
 
 -- the marks in order, and what was shown: the lines of the fills from the base to the offered mark

@@ -1,9 +1,9 @@
 -- Offers after a begin-again, with other calls among them.
-use Prim.Native.Nat.{ℕ, _+_, _-_, _≤_, _<_}
-use mathlib.Core.Path.{_≡_, refl, sym, ap, ap₂, _∙_, subst}
+use Prim.Native.Nat.{ℕ, _+_, _≤_}
+use mathlib.Core.Path.{_≡_, refl, sym, ap, ap₂, _∙_}
 use mathlib.Core.List.{List, [], _∷_, _++_, append-assoc, append-nil}
-use mathlib.Core.Bool.{Bool, true, false, cond, _&&_, not}
-use lib.ListN.{length, take, drop}
+use mathlib.Core.Bool.{true, false, _&&_, not}
+use lib.ListN.{length, drop}
 use lib.Seq.{drop-append-le}
 use Rattle.octet.proofs.Cases.{contrary, and-both}
 use Rattle.answer.specs.declared.Setup.{Setup}
@@ -16,8 +16,7 @@ use Rattle.receiver.specs.declared.Answer.{Answer}
 use Rattle.receiver.specs.declared.Answer.the-variants.{Done, None}
 use Rattle.promise.specs.World.{Call, isRestart, isDay, isBegin, gave, Shown, World, Do, showing, anew, doesIn, step, runs, givenBy, linesOf}
 use Rattle.promise.specs.Demand3.{plain, plains}
-use Rattle.promise.proofs.Day.{Grows, grows}
-use Rattle.promise.proofs.Acts.{Stands, Acts}
+use Rattle.promise.proofs.Day.{grows}
 use Rattle.promise.proofs.Good.{Good, safe-live, good-acts, good-step}
 use Rattle.promise.proofs.Waiting.{by-note, none-all}
 

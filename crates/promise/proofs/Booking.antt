@@ -1,17 +1,17 @@
 -- THE SECOND DEMAND holds: a good report is booked. And a report is asked about exactly where it is in its turn.
-use Prim.Native.Nat.{ℕ, _+_, _≤_, _<_}
-use mathlib.Core.Path.{_≡_, refl, sym, ap, _∙_}
-use mathlib.Core.List.{List, [], _∷_}
+use Prim.Native.Nat.{ℕ}
+use mathlib.Core.Path.{_≡_, refl, ap, _∙_}
+use mathlib.Core.List.{List}
 use mathlib.Core.Option.{Option, none, some}
-use mathlib.Core.Bool.{Bool, true, false, cond, _&&_, _||_, not}
+use mathlib.Core.Bool.{Bool, true, false, _&&_, _||_, not}
 use lib.ListN.{length}
-use lib.Dec.{ltb, eqb}
+use lib.Dec.{eqb}
 use borrow.Author.Tests.{le-ltb, eq-eqb}
 use Rattle.octet.specs.Maybe.{orElse, isNone}
 use Rattle.octet.proofs.Cases.{contrary, cond-true, or-none, and-make}
 use Rattle.value.specs.Value.{isTime}
-use Rattle.frame.specs.Finding.{foundIn, bodyIn}
-use Rattle.field.specs.Pieces.{Pieces, piecesOf, firstOf}
+use Rattle.frame.specs.Finding.{bodyIn}
+use Rattle.field.specs.Pieces.{Pieces, piecesOf}
 use Rattle.answer.specs.Numbers.{inside}
 use Rattle.answer.specs.declared.Setup.{Setup}
 use Rattle.answer.specs.declared.Phase.{Phase}
@@ -19,8 +19,7 @@ use Rattle.answer.specs.declared.Phase.the-variants as phase
 use Rattle.answer.specs.declared.Refusal.{Refusal}
 use Rattle.answer.specs.declared.Refusal.the-variants as refusal
 use Rattle.fill.specs.Slot.{Slot}
-use Rattle.book.specs.Place.{place, hasRoom}
-use Rattle.book.specs.declared.Placed.{Placed}
+use Rattle.book.specs.Place.{hasRoom}
 use Rattle.note.specs.Kept.{after}
 use Rattle.queue.specs.Queue.{shortNote}
 use Rattle.report.specs.Report.{reportOf, reportIn, reportedIn, slotIn}
@@ -29,11 +28,10 @@ use Rattle.report.proofs.Kept.{tells-fill}
 use Rattle.report.proofs.Lawful.{report-back}
 use Rattle.session.specs.Session.{isOn}
 use Rattle.session.specs.Judging.{judge}
-use Rattle.session.specs.declared.Verdict.{Verdict}
 use Rattle.session.specs.declared.Verdict.the-variants.{Report}
 use Rattle.session.proofs.Turns.{judge-report, judge-asks}
 use Rattle.tally.specs.declared.Tally.{Tally}
-use Rattle.receiver.specs.State.{State, Did, quiet, sessionOf}
+use Rattle.receiver.specs.State.{State, quiet, sessionOf}
 use Rattle.receiver.specs.Calls.{booked, bookedOr, placedFill, ruled, judgedBy, framed, foundTo, message}
 use Rattle.receiver.specs.Receiver.{Message, Lent, refuse, shortReply, badGiven, lastNumber, writing, refusalOf, unrefused, unless-refused, does, resultOf, call}
 use Rattle.receiver.specs.declared.Answer.the-variants.{Refused}

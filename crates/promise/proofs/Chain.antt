@@ -2,15 +2,14 @@
 -- A restart of the first k bytes of their notes gives what the survivors of k left.
 use Prim.Native.Nat.{ℕ, zero, suc, _+_, _-_, _≤_, _<_}
 use mathlib.Core.Path.{_≡_, refl, sym, ap, ap₂, _∙_, subst}
-use mathlib.Core.Logic.{_⊎_, inl, inr, ⊎-elim, _↔_}
+use mathlib.Core.Logic.{⊎-elim, _↔_}
 use mathlib.Core.List.{List, [], _∷_, _++_, append-assoc, append-nil}
 use mathlib.Core.Option.{Option, none, some}
-use mathlib.Core.Bool.{Bool, true, false, cond}
+use mathlib.Core.Bool.{Bool, true, false}
 use native.Mathlib.Nat.{add-zero, add-assoc}
 use native.Mathlib.Omega.{arith}
-use lib.ListN.{length, take, drop, length-append}
+use lib.ListN.{length, take, length-append}
 use lib.Seq.{drop-at, take-append-le, take-append-add, take-nil}
-use lib.Dec.{leb}
 use borrow.Author.Tests.{le-leb, lt-leb}
 use Rattle.octet.proofs.Cases.{le-or-lt}
 use Rattle.answer.specs.declared.Setup.{Setup}
@@ -23,7 +22,7 @@ use Rattle.restart.specs.Restart.{Again}
 use Rattle.restart.proofs.Going.{go, go-on, go-part, go-end}
 use Rattle.receiver.specs.State.{State, Did}
 use Rattle.receiver.specs.Receiver.{What, Own-call, Line-lost, Message, Offer, Begin-again, Acknowledge, New-day, Restart}
-use Rattle.promise.specs.World.{Call, Event, sizeOf, survivors, doesIn, left, bytesOf, Distinct}
+use Rattle.promise.specs.World.{Event, sizeOf, survivors, doesIn, left, bytesOf, Distinct}
 use Rattle.promise.specs.Demand3.{Booking, numberTold}
 use Rattle.promise.proofs.Executions.{distinct-snoc, new-unknown}
 

@@ -1,18 +1,17 @@
 -- Laws of executions, sums and lines: sums over rows, no execution twice, the lines of fills.
-use Prim.Native.Nat.{ℕ, zero, suc, _+_, _-_, _≤_, _<_}
-use mathlib.Core.Path.{_≡_, refl, sym, ap, ap₂, _∙_, subst}
-use mathlib.Core.Logic.{_⊎_, inl, inr, ⊎-elim}
+use Prim.Native.Nat.{ℕ, zero, suc, _+_, _<_}
+use mathlib.Core.Path.{_≡_, refl, sym, ap, _∙_}
+use mathlib.Core.Logic.{⊎-elim}
 use mathlib.Core.List.{List, [], _∷_, _++_}
 use mathlib.Core.Option.{Option, none, some}
-use mathlib.Core.Bool.{Bool, true, false, cond, _&&_}
+use mathlib.Core.Bool.{Bool, true, false, cond}
 use native.Mathlib.Nat.{add-assoc, zero-add, add-zero, suc-ne-zero, not-suc-le-zero}
 use native.Mathlib.Omega.{arith}
-use lib.ListN.{length, take, drop, getD, length-append}
-use lib.Dec.{eqb}
+use lib.ListN.{length, drop, getD, length-append}
 use borrow.Author.Tests.{eq-eqb}
 use Rattle.octet.specs.Bytes.{same}
 use Rattle.octet.specs.Maybe.{find, orElse}
-use Rattle.octet.proofs.Cases.{bool-case, true-not-false, contrary, and-fails, and-no-right, find-append, find-here, find-later}
+use Rattle.octet.proofs.Cases.{bool-case, contrary, and-fails, and-no-right, find-append, find-here, find-later}
 use Rattle.octet.proofs.Lists.{same-sym}
 use Rattle.fill.specs.Slot.{Slot, isFill, execOf, sharesOf, lineOf, fillMark}
 use Rattle.book.specs.Place.{sameExec, sameContents, sumWhere, byExec, place, isNew}

@@ -1,24 +1,24 @@
 -- The invariant of every world that steps lead to.
-use Prim.Native.Nat.{ℕ, zero, suc, _+_, _-_, _≤_, _<_}
+use Prim.Native.Nat.{ℕ, _+_, _-_, _≤_}
 use mathlib.Core.Path.{_≡_, refl, sym, ap, ap₂, _∙_, subst}
 use mathlib.Core.List.{List, [], _∷_, _++_, append-assoc, append-nil}
 use mathlib.Core.Option.{Option, none, some}
-use mathlib.Core.Bool.{Bool, true, false}
+use mathlib.Core.Bool.{false}
 use native.Mathlib.Nat.{le-refl}
 use native.Mathlib.Omega.{arith}
-use lib.ListN.{length, take, drop, length-append}
-use lib.Seq.{take-take, take-append-add, take-append-seam}
+use lib.ListN.{length, take, drop}
+use lib.Seq.{take-take, take-append-add}
 use Rattle.answer.specs.declared.Setup.{Setup}
 use Rattle.note.specs.Notes.{Note, noteBytes}
-use Rattle.note.specs.Kept.{Kept, empty, lawful, after}
-use Rattle.restart.specs.Restart.{Outcome, Again, Unlawful, restart}
+use Rattle.note.specs.Kept.{Kept, empty}
+use Rattle.restart.specs.Restart.{Again, restart}
 use Rattle.restart.proofs.Going.{go, restart-go}
 use Rattle.receiver.specs.State.{State, woken, Did, quiet, bytesOfNote}
 use Rattle.receiver.specs.Calls.{restarted}
-use Rattle.receiver.specs.Receiver.{What, Restart, Lent, refusalOf, unrefused, does}
+use Rattle.receiver.specs.Receiver.{Restart, Lent, refusalOf, unrefused, does}
 use Rattle.receiver.specs.declared.Answer.the-variants.{Restarted}
-use Rattle.promise.specs.World.{Call, isRestart, Event, Shown, World, start, Step, Do, Cut, doing, eventsOf, showing, anew, survivors, remains, again, nothing, doesIn, step, steps, world, survived, left, bytesOf, linesOf}
-use Rattle.promise.proofs.Chain.{Noted, NoteSays, Tells, Safe, safe-empty, Link, Chain, left-snoc, left-split, chain-snoc, chain-split, chain-join, chain-keep, bytes-snoc, safe-left, run-cut, survivors-fit, survivors-front}
+use Rattle.promise.specs.World.{Call, isRestart, Event, World, start, Step, Do, Cut, doing, eventsOf, survivors, remains, again, nothing, doesIn, step, steps, world, survived, left, bytesOf, linesOf}
+use Rattle.promise.proofs.Chain.{Noted, NoteSays, Safe, safe-empty, Link, Chain, left-snoc, left-split, chain-snoc, chain-join, chain-keep, bytes-snoc, safe-left, run-cut, survivors-fit, survivors-front}
 use Rattle.promise.proofs.Acts.{Stands, Acts, acts}
 
 module _ (setup : Setup) where

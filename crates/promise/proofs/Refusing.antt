@@ -1,7 +1,7 @@
 -- THE FIRST DEMAND holds: the refusal given is the first of the table that holds, and a refused call leaves everything as it was.
-use Prim.Native.Nat.{ℕ, zero, suc, _+_, _-_, _*_, _≤_, _<_}
+use Prim.Native.Nat.{ℕ, zero, suc, _+_, _*_, _<_}
 use mathlib.Core.Path.{_≡_, refl, sym, ap, ap₂, _∙_, subst}
-use mathlib.Core.Logic.{_⊎_, ⊎-elim, _↔_}
+use mathlib.Core.Logic.{⊎-elim, _↔_}
 use mathlib.Core.List.{List, [], _∷_, _++_}
 use mathlib.Core.Option.{Option, none, some}
 use mathlib.Core.Bool.{Bool, true, false, cond, _&&_, _||_, not}
@@ -9,7 +9,7 @@ use native.Mathlib.Nat.{not-suc-le-zero}
 use native.Mathlib.Omega.{arith}
 use lib.ListN.{length, take, drop, length-drop}
 use lib.Seq.{take-all, take-add}
-use lib.Dec.{ltb, leb, eqb}
+use lib.Dec.{ltb, leb}
 use borrow.Author.Tests.{lt-ltb, ltb-true, not-true}
 use Rattle.octet.specs.Bytes.{joined}
 use Rattle.octet.specs.Maybe.{orElse, first, isNone}
@@ -32,8 +32,8 @@ use Rattle.book.specs.Memory.{slotsIn}
 use Rattle.book.specs.declared.Placed.{Placed}
 use Rattle.book.specs.declared.Placed.the-variants as placed
 use Rattle.book.proofs.Slots.{slots-length}
-use Rattle.note.specs.Notes.{Note, Marks, Clears}
-use Rattle.note.specs.Kept.{empty, after, waiting}
+use Rattle.note.specs.Notes.{Note}
+use Rattle.note.specs.Kept.{waiting}
 use Rattle.queue.specs.Queue.{nextOffer}
 use Rattle.report.specs.Report.{reportOf, reportIn, reportedIn, slotIn}
 use Rattle.report.specs.declared.Reported.{Reported}
@@ -47,17 +47,17 @@ use Rattle.session.specs.declared.Own.the-variants.{Open, Beat, Ask, Close}
 use Rattle.session.specs.declared.Verdict.{Verdict}
 use Rattle.session.specs.declared.Verdict.the-variants.{Settled, Report}
 use Rattle.tally.specs.declared.Tally.{Tally}
-use Rattle.receiver.specs.State.{State, woken, Did, quiet, noting, keeping, sessionOf, seen, stored, bookWith, replyAfter, noteAfter, lineAfter, bookAfter, bytesOfNote}
+use Rattle.receiver.specs.State.{State, Did, quiet, sessionOf, seen, stored, bookWith, replyAfter, noteAfter, lineAfter, bookAfter, bytesOfNote}
 use Rattle.receiver.specs.Calls.{owned, lost, settled, booked, bookedOr, placedFill, ruled, judgedBy, framed, foundTo, message, offerOf, offer, beginAgain, acknowledge, isEmpty, newDay, restarted}
 use Rattle.receiver.specs.Receiver.{What, Own-call, Line-lost, Message, Offer, Begin-again, Acknowledge, New-day, Restart, Lent, refuse, badGiven, writing, refusalOf, unrefused, unless-refused, does, tallyAfter, call}
 use Rattle.receiver.specs.declared.State.{State as Stored}
 use Rattle.receiver.specs.declared.Answer.{Answer}
 use Rattle.receiver.specs.declared.Answer.the-variants.{Done, Refused, More, Garbled, Framed, Offered, None, Acked, Already, Restarted}
 use Rattle.promise.specs.World.{isRefused}
-use Rattle.promise.specs.Demand2.{Bookable, Fresh}
-use Rattle.promise.specs.Demand1.{tooShort, badTime, noTime, anyPhase, phasesOf, phasesOfOwn, among, wrongPhase, numbersUsed, isReport, isFilled, crowded, crowdedIn, noRoom, notOffered, stillWaiting, unlawfulIn, unlawfulNote, table, firstThere, refusedWith, Untouched, Unchanged, Demand1}
+use Rattle.promise.specs.Demand2.{Bookable}
+use Rattle.promise.specs.Demand1.{tooShort, badTime, noTime, anyPhase, phasesOfOwn, among, wrongPhase, numbersUsed, isReport, isFilled, crowdedIn, noRoom, unlawfulIn, table, firstThere, refusedWith, Untouched, Unchanged, Demand1}
 use Rattle.promise.proofs.Executions.{none-some}
-use Rattle.promise.proofs.Booking.{asked, turned, filled, to-room}
+use Rattle.promise.proofs.Booking.{asked, turned, filled}
 
 -- ---- the phases
 

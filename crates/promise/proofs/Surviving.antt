@@ -1,13 +1,13 @@
 -- THE THIRD DEMAND holds of every world that steps lead to, whatever the set-up, the calls and the cuts.
-use Prim.Native.Nat.{ℕ, zero, suc, _+_, _-_, _≤_, _<_}
+use Prim.Native.Nat.{ℕ, _+_, _≤_}
 use mathlib.Core.Path.{_≡_, refl, sym, ap, ap₂, _∙_, subst}
-use mathlib.Core.Logic.{_⊎_, inl, inr, ⊎-elim, _↔_}
+use mathlib.Core.Logic.{⊎-elim, _↔_}
 use mathlib.Core.List.{List, [], _∷_, _++_}
 use mathlib.Core.Option.{some}
-use mathlib.Core.Bool.{Bool, true, false, _||_}
+use mathlib.Core.Bool.{Bool, true, false}
 use native.Mathlib.Nat.{not-suc-le-zero}
 use native.Mathlib.Omega.{arith}
-use lib.ListN.{length, take, drop, replicate, length-append, take-append-drop}
+use lib.ListN.{length, take, drop, replicate, take-append-drop}
 use Rattle.octet.proofs.Cases.{bool-case, or-neither, or-none}
 use Rattle.answer.specs.declared.Setup.{Setup}
 use Rattle.fill.specs.Slot.{Slot}
@@ -15,9 +15,9 @@ use Rattle.book.specs.Place.{sameOrder, sumWhere}
 use Rattle.queue.specs.Queue.{shortNote}
 use Rattle.note.specs.Kept.{Kept, empty, waiting}
 use Rattle.receiver.specs.State.{State, woken, Did, quiet, offering}
-use Rattle.receiver.specs.Receiver.{Offer, Begin-again, Acknowledge, Restart, Lent, does}
+use Rattle.receiver.specs.Receiver.{Begin-again, Acknowledge, does}
 use Rattle.receiver.specs.declared.Answer.the-variants.{Done, Restarted}
-use Rattle.promise.specs.World.{Call, isRestart, isRefused, Event, World, Step, Do, Cut, survivors, remains, doesIn, step, world, Offers, saidBy, survived, left, today, booked, largest, acknowledged, bytesOf, distinct, Distinct}
+use Rattle.promise.specs.World.{Call, isRestart, isRefused, Event, World, Step, Do, Cut, survivors, doesIn, step, world, Offers, saidBy, survived, left, today, booked, largest, acknowledged, bytesOf, distinct, Distinct}
 use Rattle.promise.specs.Demand3.{Waits, taken, dayIn, Booking, numberTold, Waiting, Takes, giving, sayingNone, Demand3}
 use Rattle.promise.proofs.Executions.{sum-append, distinct-all, distinct-drop}
 use Rattle.promise.proofs.Chain.{Safe, safe-empty, Link, Chain, chain-split, left-split, safe-left, survivors-fit, survivors-first, survivors-most}

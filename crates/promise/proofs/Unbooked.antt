@@ -1,5 +1,5 @@
 -- A message that the session settles is none that was booked.
-use Prim.Native.Nat.{ℕ, _-_}
+use Prim.Native.Nat.{ℕ}
 use mathlib.Core.Path.{_≡_, refl, subst}
 use mathlib.Core.Option.{Option, none, some}
 use mathlib.Core.Bool.{Bool, _&&_, _||_}
@@ -13,7 +13,7 @@ use Rattle.answer.specs.declared.Kind.{Kind}
 use Rattle.answer.specs.declared.Kind.the-variants as kind
 use Rattle.answer.specs.declared.Fault.{Fault}
 use Rattle.field.specs.Pieces.{Pieces}
-use Rattle.session.specs.Judging.{Facts, factsIn, welcomed, logon, step3, resetMode, rejectedIf, movedTo, loggedOut, effect, inTurn, belowIf, gap, below, step4, byPhase, step2, step1, judgedBy, judge}
+use Rattle.session.specs.Judging.{Facts, factsIn, logon, step3, resetMode, rejectedIf, movedTo, loggedOut, effect, inTurn, gap, step4, byPhase, step2, step1, judgedBy, judge}
 use Rattle.session.specs.declared.Session.{Session}
 use Rattle.session.specs.declared.Judged.{Judged}
 use Rattle.session.specs.declared.Verdict.{Verdict}

@@ -1,34 +1,33 @@
 -- When a fill waits, when it stops, and what offers give.
-use Prim.Native.Nat.{ℕ, zero, suc, _+_, _-_, _≤_, _<_, max}
+use Prim.Native.Nat.{ℕ, _+_, _-_, _≤_, _<_, max}
 use mathlib.Core.Path.{_≡_, refl, sym, ap, ap₂, _∙_, subst}
-use mathlib.Core.Logic.{_⊎_, inl, inr, ⊎-elim}
-use mathlib.Core.List.{List, [], _∷_, _++_, append-assoc, append-nil}
+use mathlib.Core.Logic.{⊎-elim}
+use mathlib.Core.List.{List, [], _∷_, _++_}
 use mathlib.Core.Option.{Option, none, some}
-use mathlib.Core.Bool.{Bool, true, false, cond, _||_}
+use mathlib.Core.Bool.{Bool, true, false, _||_}
 use native.Mathlib.Nat.{zero-add, not-suc-le-zero, le-refl}
 use native.Mathlib.Omega.{arith}
 use lib.ListN.{length, take, drop, getD, replicate, length-append, length-take, length-drop, List·getD-append}
 use lib.Seq.{drop-drop, getD-take, getD-drop, take-all, getD-append-seam}
 use lib.Dec.{leb, ltb}
-use borrow.Author.Tests.{leb-true, leb-false, ltb-true, ltb-false, le-ltb}
-use Rattle.octet.specs.Maybe.{first, orElse}
+use borrow.Author.Tests.{leb-true, leb-false, ltb-false, le-ltb}
+use Rattle.octet.specs.Maybe.{first}
 use Rattle.octet.proofs.Cases.{bool-case, contrary, of-cond, cond-false, or-neither, le-or-lt}
 use Rattle.answer.specs.declared.Setup.{Setup}
 use Rattle.answer.specs.declared.Refusal.{Refusal}
 use Rattle.answer.specs.declared.Refusal.the-variants as refusal
 use Rattle.fill.specs.Slot.{Slot, lineOf}
-use Rattle.queue.specs.Queue.{shortNote, shortLine}
+use Rattle.queue.specs.Queue.{shortNote}
 use Rattle.note.specs.Notes.{Note, Leaves, Books, Marks, Clears}
-use Rattle.note.specs.Kept.{Kept, empty, lawful, after, waiting}
-use Rattle.receiver.specs.State.{State, Did, quiet, offering, noting, keeping}
-use Rattle.receiver.specs.Calls.{offerOf, offer, beginAgain, acknowledge}
+use Rattle.note.specs.Kept.{Kept, empty, after}
+use Rattle.receiver.specs.State.{State, Did, quiet, noting, keeping}
+use Rattle.receiver.specs.Calls.{offerOf, offer, acknowledge}
 use Rattle.receiver.specs.Receiver.{What, Own-call, Line-lost, Message, Offer, Begin-again, Acknowledge, New-day, Restart, Lent, refuse, refusalOf, unrefused, unless-refused, does}
-use Rattle.receiver.specs.declared.Answer.{Answer}
-use Rattle.receiver.specs.declared.Answer.the-variants.{Done, Refused, Offered, None, Acked, Already}
-use Rattle.promise.specs.World.{Call, isRestart, isDay, numberOf, isRefused, Event, Shown, World, Step, Do, Cut, doesIn, step, left, Offers, Said, saidBy, linesOf}
-use Rattle.promise.specs.Demand3.{Waits, taken, dayIn, Booking, Shows, Takes, giving, sayingNone}
+use Rattle.receiver.specs.declared.Answer.the-variants.{Refused, None, Acked, Already}
+use Rattle.promise.specs.World.{Call, isDay, numberOf, isRefused, Event, World, doesIn, left, Offers, Said, saidBy, linesOf}
+use Rattle.promise.specs.Demand3.{taken, dayIn, Booking, Shows, Takes, giving, sayingNone}
 use Rattle.promise.proofs.Executions.{none-some, no-snoc, no-empty, lines-length, line-at}
-use Rattle.promise.proofs.Chain.{sessional, Says, Noted, NoteSays, Safe, Link, Chain}
+use Rattle.promise.proofs.Chain.{sessional, Noted, NoteSays, Safe, Link, Chain}
 use Rattle.promise.proofs.Day.{Grows, grows, renews}
 use Rattle.promise.proofs.Acts.{Stands, Acts, neither, not-refused}
 

@@ -25,7 +25,7 @@ use Rattle.report.specs.Report.{reportIn, slotIn, ruleFault}
 use Rattle.session.specs.Judging.{seqGiven, idsGiven}
 use Rattle.tally.specs.Tally.{tallied}
 use Rattle.tally.specs.declared.Tally.{Tally}
-use Rattle.receiver.specs.State.{State, Did}
+use Rattle.receiver.specs.State.{State}
 use Rattle.receiver.specs.Receiver.{Message, Lent, Result, call}
 use Rattle.receiver.specs.declared.Answer.the-variants.{Framed}
 

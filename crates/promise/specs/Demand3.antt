@@ -9,14 +9,13 @@ use mathlib.Core.Bool.{Bool, true, false, cond, _&&_, _||_, not}
 use lib.ListN.{length, take, drop, getD, replicate}
 use lib.Dec.{leb}
 use Rattle.answer.specs.declared.Setup.{Setup}
-use Rattle.answer.specs.declared.Refusal.{Refusal}
 use Rattle.answer.specs.declared.Outcome.{Outcome}
 use Rattle.answer.specs.declared.Outcome.the-variants.{Ended, Rejected, RejectedEnded, Dropped, Gap, In, Heard, Echoed, Filled, Moved, Aside, Booked}
 use Rattle.answer.specs.declared.Outcome.the-variants as outcome
 use Rattle.fill.specs.Slot.{Slot, lineOf}
 use Rattle.book.specs.Place.{sumWhere}
 use Rattle.queue.specs.Queue.{shortNote}
-use Rattle.note.specs.Kept.{Kept, empty, waiting}
+use Rattle.note.specs.Kept.{empty, waiting}
 use Rattle.receiver.specs.State.{State, woken, Did, quiet}
 use Rattle.receiver.specs.Receiver.{Offer, Begin-again, Acknowledge, Restart, Lent, does}
 use Rattle.receiver.specs.declared.Answer.{Answer}
