@@ -90,9 +90,9 @@ module _ (s : Session) (m : Facts) where
       turn-above g l h = rw (e, ne-eqb n (s .e) g, le-ltb n (s .e) l) (ap Settled h)
 
     -- ---- steps 5 to 7
-    pub turn-faulty : (f : Option Fault) {g : Fault} {j : Judged} → f ≡ some g → j ≡ rejectedIf (resetMode m) s n g → Settled j ≡ inTurn s n m f
+    pub turn-faulty : (f : Option Fault) (reset : Bool) {g : Fault} {j : Judged} → f ≡ some g → resetMode m ≡ reset → j ≡ rejectedIf reset s n g → Settled j ≡ inTurn s n m f
     unfolding inTurn
-    turn-faulty f e h = rw e (ap Settled h)
+    turn-faulty f reset {g = g} e r h = rw e (ap Settled (h ∙ ap (λ (b : Bool). rejectedIf b s n g) (sym r)))
 
     pub turn-fine : (f : Option Fault) {v : Verdict} → f ≡ none → v ≡ effect s n m (m .kind) → v ≡ inTurn s n m f
     unfolding inTurn

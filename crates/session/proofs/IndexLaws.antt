@@ -5,6 +5,7 @@ use mathlib.Core.Option.{Option}
 use Prim.Native.Nat.{ℕ}
 use Rattle.field.specs.Pieces.{piecesOf, firstOf}
 use Rattle.field.specs.Index.{indexOf}
+use Rattle.field.specs.declared.Index.{Index}
 use Rattle.field.proofs.IndexLaws.{value-law, first-law}
 use Rattle.table.specs.Rows.{kindOf, kindIn}
 use Rattle.table.specs.Steps.{numberAt, faultIn}
@@ -44,3 +45,7 @@ module _ (setup : Setup) (s : Session) (body : List ℕ) where
   pub judge-law : judgedBy s (factsBy setup s body (indexOf body)) ≡ judge setup s (piecesOf body)
   unfolding judge
   judge-law = ap (judgedBy s) facts-law
+
+  -- by an index that is the body's own
+  pub judge-by : (ix : Index) → ix ≡ indexOf body → judgedBy s (factsBy setup s body ix) ≡ judge setup s (piecesOf body)
+  judge-by ix e = ap (λ (x : Index). judgedBy s (factsBy setup s body x)) e ∙ judge-law

@@ -11,7 +11,10 @@ use Rattle.session.proofs.Session.in_turn.Tie as tie
 returns : tie.Need-returns
 unfolding factsBy factsOf
 returns c =
-    turn-faulty _ _ _ _ (sym (c .before .before .before .before .before .before .before .before .before .fault-in .ensures) ∙ ap faultOf (c .before .before .before .before .before .before .before .f .given .1)) (rw (c .rejected-if .ensures, c .before .is-reset .ensures, c .before .before .kind-in .ensures))
+    turn-faulty _ _ _ _ (c .before .is-reset .result)
+    (sym (c .before .before .before .before .before .before .before .before .before .fault-in .ensures) ∙ ap faultOf (c .before .before .before .before .before .before .before .f .given .1))
+    (rw (← c .before .before .kind-in .ensures) (sym (c .before .is-reset .ensures)))
+    (c .rejected-if .ensures)
 
 returns-2 : tie.Need-returns-2
 unfolding factsBy factsOf
