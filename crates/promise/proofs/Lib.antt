@@ -11,3 +11,4 @@ pub mod Surviving
 pub mod Booking
 pub mod Refusing
 pub mod Orders
+pub mod Walked
