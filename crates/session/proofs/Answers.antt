@@ -40,10 +40,10 @@ module _ (s : Session) (m : Facts) where
 
   module _ (n : ℕ) where
     -- ---- by phase
-    pub phase-off : (p : Phase) {j : Judged} → (p ≡ phase.Out) ⊎ (p ≡ phase.Ended) → j ≡ judged Dropped Nothing s → Settled j ≡ byPhase p s n m
+    pub phase-off : (p : Phase) {v : Verdict} → (p ≡ phase.Out) ⊎ (p ≡ phase.Ended) → v ≡ Settled (judged Dropped Nothing s) → v ≡ byPhase p s n m
     unfolding byPhase
-    phase-off p (inl e) h = rw e (ap Settled h)
-    phase-off p (inr e) h = rw e (ap Settled h)
+    phase-off p (inl e) h = rw e h
+    phase-off p (inr e) h = rw e h
 
     pub phase-sent : (p : Phase) {j : Judged} → p ≡ phase.Sent → j ≡ step3 s n m → Settled j ≡ byPhase p s n m
     unfolding byPhase

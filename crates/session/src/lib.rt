@@ -26,9 +26,11 @@ ghost use Rattle.answer.specs.Numbers.{fault, counted, kindNumber, isKind};
 ghost use Rattle.answer.specs.declared.Kind.the-variants as kinds;
 ghost use Rattle.answer.specs.declared.Outcome.the-variants as outcome;
 ghost use Rattle.wire.specs.declared.Say.the-variants as say;
+ghost use Rattle.wire.specs.declared.Reply.the-variants.{Nothing, One};
 ghost use Rattle.session.specs.declared.Own.the-variants as own;
+ghost use Rattle.session.specs.declared.Verdict.the-variants.{Settled};
 ghost use Rattle.session.specs.Session.{fresh, into, expecting, asking, raised, sending, judged, isOff, isOn, isIn, says, mayCall, ownCall, lineLost};
-ghost use Rattle.session.specs.Judging.{numberIf, seqGiven, idsGiven, yes, ended, rejectedEnded, welcomed, step3, rejectedTo, rejected, rejectedIf, passed, filledTo, movedTo, loggedOut, effect, inTurn, belowIf, dueBy, gapReply, gap, step4, byPhase, judgedBy, echoes, wordTag};
+ghost use Rattle.session.specs.Judging.{numberIf, seqGiven, idsGiven, yes, ended, rejectedEnded, welcomed, step3, rejectedTo, rejected, rejectedIf, passed, heard, filledTo, movedTo, loggedOut, effect, inTurn, belowIf, dueBy, gapReply, gap, step4, byPhase, judgedBy, echoes, wordTag};
 ghost use Rattle.session.specs.Indexed.{fieldIn, fieldBy, kindBy, factsBy};
 
 // The phase, the number expected, the next to send, and the E that a Resend Request was last written for (0 for none).
@@ -332,6 +334,29 @@ impl Session {
         self.raised().settled(outcome, Reply::Nothing)
     }
 
+    fn heard(self) -> Verdict
+        ensures { λ r. ⌜ r ≡ Settled (heard self) ⌝ }
+    {
+        Verdict::Settled(self.passed(Outcome::Heard))
+    }
+
+    // "Heartbeat with it".
+    fn echoed(self) -> Verdict
+        ensures { λ r. ⌜ r ≡ Settled (judged outcome.Echoed (One say.Echo) (raised self)) ⌝ }
+    {
+        Verdict::Settled(
+            self.raised()
+                .settled(Outcome::Echoed, Reply::One(Say::Echo)),
+        )
+    }
+
+    // A message that changes nothing and is not answered.
+    fn dropped(self) -> Verdict
+        ensures { λ r. ⌜ r ≡ Settled (judged outcome.Dropped Nothing self) ⌝ }
+    {
+        Verdict::Settled(self.settled(Outcome::Dropped, Reply::Nothing))
+    }
+
     // "Numbered E: E rises by 1. Above: E stays and a Resend Request follows. Both: phase 2."
     fn welcomed(self, n: u32) -> Judged
         ensures { λ r. ⌜ r ≡ welcomed self n ⌝ }
@@ -369,14 +394,20 @@ impl Session {
     }
 
     // "Logout in phase 2, none in 4; ended".
-    fn logged_out(self) -> Judged
-        ensures { λ r. ⌜ r ≡ loggedOut self ⌝ }
+    fn logged_out(self) -> Verdict
+        ensures { λ r. ⌜ r ≡ Settled (loggedOut self) ⌝ }
     {
         let next = self.raised().into(Phase::Ended);
+        Verdict::Settled(next.settled(Outcome::Ended, self.farewell()))
+    }
+
+    fn farewell(self) -> Reply
+        ensures { λ r. ⌜ r ≡ cond (isIn (self .phase)) (One say.Logout) Nothing ⌝ }
+    {
         if self.is_in() {
-            return next.settled(Outcome::Ended, Reply::One(Say::Logout));
+            return Reply::One(Say::Logout);
         }
-        next.settled(Outcome::Ended, Reply::Nothing)
+        Reply::Nothing
     }
 
     // "below E: with `43=Y` dropped, else Logout, ended".
@@ -572,31 +603,38 @@ impl Session {
         Say::GapFill(from, filled_to(self.o, last))
     }
 
+    // "gap fill".
+    fn filled(self, body: &[u8], ix: Index) -> Verdict
+        ensures { λ r. ⌜ r ≡ Settled (judged outcome.Filled (One (say.GapFill (numberIn (now (body .entry)) (ix .start) (ix .len) 7) (filledTo (self .o) (numberIn (now (body .entry)) (ix .start) (ix .len) 16)))) (raised self)) ⌝ }
+    {
+        let fill = self.gap_fill(body, ix);
+        Verdict::Settled(self.raised().settled(Outcome::Filled, Reply::One(fill)))
+    }
+
+    // "E to 36's".
+    fn reset(self, n: u32, kind: Kind, body: &[u8], ix: Index) -> Verdict
+        ensures { λ r. ⌜ r ≡ Settled (movedTo (numberIn (now (body .entry)) (ix .start) (ix .len) 36) (isKind kind kinds.Reset && not (yes (fieldBy (now (body .entry)) ix 123))) self n) ⌝ }
+    {
+        let reset = is_reset(kind, body, ix);
+        let to = table::number_at(body, &ix.start, &ix.len, TO);
+        Verdict::Settled(self.moved(to, reset, n))
+    }
+
     // The table's column "Effect". Of a report the book is to be asked.
     fn effect(self, n: u32, setup: Setup, body: &[u8], ix: Index) -> Verdict
         ensures { λ r. ⌜ r ≡ effect self n (factsBy setup self (now (body .entry)) ix) (kindBy setup (now (body .entry)) ix) ⌝ }
     {
         let kind = kind_in(setup, body, &ix.start, &ix.len);
         match kind {
-            Kind::Logon => Verdict::Settled(self.passed(Outcome::Heard)),
-            Kind::Heartbeat => Verdict::Settled(self.passed(Outcome::Heard)),
-            Kind::Test => Verdict::Settled(
-                self.raised()
-                    .settled(Outcome::Echoed, Reply::One(Say::Echo)),
-            ),
-            Kind::Resend => {
-                let fill = self.gap_fill(body, ix);
-                Verdict::Settled(self.raised().settled(Outcome::Filled, Reply::One(fill)))
-            }
-            Kind::Reset => {
-                let reset = is_reset(kind, body, ix);
-                let to = table::number_at(body, &ix.start, &ix.len, TO);
-                Verdict::Settled(self.moved(to, reset, n))
-            }
-            Kind::Logout => Verdict::Settled(self.logged_out()),
+            Kind::Logon => self.heard(),
+            Kind::Heartbeat => self.heard(),
+            Kind::Test => self.echoed(),
+            Kind::Resend => self.filled(body, ix),
+            Kind::Reset => self.reset(n, kind, body, ix),
+            Kind::Logout => self.logged_out(),
             Kind::Report => Verdict::Report(n),
-            Kind::Other => Verdict::Settled(self.passed(Outcome::Heard)),
-            Kind::Unlisted => Verdict::Settled(self.passed(Outcome::Heard)),
+            Kind::Other => self.heard(),
+            Kind::Unlisted => self.heard(),
         }
     }
 
@@ -688,10 +726,10 @@ impl Session {
     {
         let phase = self.phase;
         match phase {
-            Phase::Out => Verdict::Settled(self.settled(Outcome::Dropped, Reply::Nothing)),
+            Phase::Out => self.dropped(),
             Phase::Sent => Verdict::Settled(self.judge_logon(n, setup, body, ix)),
             Phase::In => self.judge_turn(n, setup, body, ix),
-            Phase::Ended => Verdict::Settled(self.settled(Outcome::Dropped, Reply::Nothing)),
+            Phase::Ended => self.dropped(),
             Phase::Closing => self.judge_turn(n, setup, body, ix),
         }
     }
