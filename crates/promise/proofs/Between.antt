@@ -96,7 +96,8 @@ module _ (setup : Setup) where
 
   pub between : (w : World) → Good setup w → (b c : Call) (cs : List Call) → b .what ≡ Begin-again → c .what ≡ Offer → plains cs ≡ true
       → doesIn setup (runs setup (doesIn setup (w .live) b .next) cs) c .answer ≡ None
-      → (more : List Slot) × (givenBy setup (doesIn setup (w .live) b .next) cs ≡ linesOf (w .live .kept .acked + 1) (waiting (w .live .kept) ++ more))
+      → (more : List Slot) × (runs setup (doesIn setup (w .live) b .next) cs .kept .slots ≡ w .live .kept .slots ++ more)
+      × (givenBy setup (doesIn setup (w .live) b .next) cs ≡ linesOf (w .live .kept .acked + 1) (waiting (w .live .kept) ++ more))
   unfolding step
   between w g b c cs kb kc p h =
       let o : isRestart (b .what) ≡ false = begin-plain (b .what) kb in
@@ -113,6 +114,7 @@ module _ (setup : Setup) where
       let a : ℕ = w .live .kept .acked in
       let le : a ≤ length fs = safe-live setup w g .sound .mark in (
         m,
+        sym (ap (λ (x : State). x .kept .slots) (r .live)) ∙ r .more .1 ∙ ap (λ (x : Kept). x .slots ++ m) k,
         sym (r .given ∙ ap (λ (x : Shown). x .given ++ givenBy setup (w′ .live) cs) s)
             ∙ n
             ∙ ap₂ (λ (i : ℕ) (l : List Slot). linesOf (i + 1) (drop i l)) (r .base ∙ ap (λ (x : Shown). x .base) s) (r .more .1 ∙ ap (λ (x : Kept). x .slots ++ m) k)

@@ -5,7 +5,7 @@ use mathlib.Core.Logic.{⊎-elim, _↔_}
 use mathlib.Core.List.{List, [], _∷_, _++_}
 use mathlib.Core.Option.{some}
 use mathlib.Core.Bool.{Bool, true, false}
-use native.Mathlib.Nat.{not-suc-le-zero}
+use native.Mathlib.Nat.{not-suc-le-zero, le-refl}
 use native.Mathlib.Omega.{arith}
 use lib.ListN.{length, take, drop, replicate, take-append-drop}
 use Rattle.octet.proofs.Cases.{bool-case, or-neither, or-none}
@@ -123,12 +123,14 @@ module _ (setup : Setup) (w : World) (g : Good setup w) where
   accepts : (c : Call) (m : ℕ) → c .what ≡ Acknowledge m → shortNote (c .lent .note) ≡ false → m ≤ w .live .offered → isRefused (doesIn setup (w .live) c .answer) ≡ false
   accepts c m y s h = ap (λ (d : Did). isRefused (d .answer)) (ap (does setup (w .live) (c .lent)) y) ∙ ack-accepts setup (w .live) (c .lent) m s h
 
-  gives : (b : Call) (cs : List Call) (j : ℕ) → b .what ≡ Begin-again → Offers setup (doesIn setup (w .live) b .next) cs → length cs ≡ length (waiting (w .live .kept)) + j
-      → saidBy setup (doesIn setup (w .live) b .next) cs ≡ giving (w .live .kept .acked + 1) (waiting (w .live .kept)) ++ replicate j sayingNone
-  gives b cs j y all n =
+  gives : (b : Call) (cs : List Call) → b .what ≡ Begin-again → Offers setup (doesIn setup (w .live) b .next) cs
+      → saidBy setup (doesIn setup (w .live) b .next) cs
+      ≡ take (length cs) (giving (w .live .kept .acked + 1) (waiting (w .live .kept)) ++ replicate (length cs) sayingNone)
+  gives b cs y all =
       let q : doesIn setup (w .live) b ≡ quiet Done (offering (w .live .kept .acked) (w .live)) = begin-does setup (w .live) b y in
-      offers-give setup (waiting (w .live .kept)) cs j (doesIn setup (w .live) b .next) all n (ap (λ (d : Did). drop (d .next .offered) (d .next .kept .slots)) q)
-      ∙ ap (λ (d : Did). giving (d .next .offered + 1) (waiting (w .live .kept)) ++ replicate j sayingNone) q
+      offers-give setup (waiting (w .live .kept)) cs (length cs) (doesIn setup (w .live) b .next) all (le-refl (length cs))
+      (ap (λ (d : Did). drop (d .next .offered) (d .next .kept .slots)) q)
+      ∙ ap (λ (d : Did). take (length cs) (giving (d .next .offered + 1) (waiting (w .live .kept)) ++ replicate (length cs) sayingNone)) q
 
 -- ---- a cut
 

@@ -1,11 +1,11 @@
 -- When a fill waits, when it stops, and what offers give.
-use Prim.Native.Nat.{ℕ, _+_, _-_, _≤_, _<_, max}
+use Prim.Native.Nat.{ℕ, zero, suc, _+_, _-_, _≤_, _<_, max}
 use mathlib.Core.Path.{_≡_, refl, sym, ap, ap₂, _∙_, subst}
 use mathlib.Core.Logic.{⊎-elim}
 use mathlib.Core.List.{List, [], _∷_, _++_}
 use mathlib.Core.Option.{Option, none, some}
 use mathlib.Core.Bool.{Bool, true, false, _||_}
-use native.Mathlib.Nat.{zero-add, not-suc-le-zero, le-refl}
+use native.Mathlib.Nat.{not-suc-le-zero, le-refl}
 use native.Mathlib.Omega.{arith}
 use lib.ListN.{length, take, drop, getD, replicate, length-append, length-take, length-drop, List·getD-append}
 use lib.Seq.{drop-drop, getD-take, getD-drop, take-all, getD-append-seam}
@@ -316,29 +316,25 @@ module _ (setup : Setup) where
   said : Did → Said
   said d = record { answer = d .answer; line = d .line }
 
-  offers-none : (cs : List Call) (st : State) → Offers setup st cs → drop (st .offered) (st .kept .slots) ≡ [] → saidBy setup st cs ≡ replicate (length cs) sayingNone
-  unfolding said
-  offers-none [] st y e = refl
-  offers-none (c ∷ cs) st y e =
-      let o : doesIn setup st c ≡ quiet None st = offer-does st c [] (y .0) (y .1) e in
-      ap₂ (λ (a : Said) (l : List Said). a ∷ l) (ap said o)
-      (offers-none cs (doesIn setup st c .next) (y .2) (ap (λ (d : Did). drop (d .next .offered) (d .next .kept .slots)) o ∙ e))
-
   drop-next : (l : List Slot) (n : ℕ) (f : Slot) (fs : List Slot) → drop n l ≡ f ∷ fs → drop (n + 1) l ≡ fs
   drop-next l n f fs e = sym (drop-drop 1 n l) ∙ ap (drop 1) e
 
-  pub offers-give : (fs : List Slot) (cs : List Call) (j : ℕ) (st : State) → Offers setup st cs → length cs ≡ length fs + j
-      → drop (st .offered) (st .kept .slots) ≡ fs → saidBy setup st cs ≡ giving (st .offered + 1) fs ++ replicate j sayingNone
+  pub offers-give : (fs : List Slot) (cs : List Call) (m : ℕ) (st : State) → Offers setup st cs → length cs ≤ m → drop (st .offered) (st .kept .slots) ≡ fs
+      → saidBy setup st cs ≡ take (length cs) (giving (st .offered + 1) fs ++ replicate m sayingNone)
   unfolding said
-  offers-give [] cs j st y n e = offers-none cs st y e ∙ ap (λ (i : ℕ). replicate i sayingNone) (n ∙ zero-add j)
-  offers-give (f ∷ fs) [] j st y n e = absurd (not-suc-le-zero {n = 0} (omega arith))
-  offers-give (f ∷ fs) (c ∷ cs) j st y n e =
+  offers-give fs [] m st y n e = refl
+  offers-give fs (c ∷ cs) zero st y n e = absurd (not-suc-le-zero {n = length cs} n)
+  offers-give [] (c ∷ cs) (suc m) st y n e =
+      let o : doesIn setup st c ≡ quiet None st = offer-does st c [] (y .0) (y .1) e in
+      ap₂ (λ (a : Said) (l : List Said). a ∷ l) (ap said o)
+      (offers-give [] cs m (doesIn setup st c .next) (y .2) (omega arith) (ap (λ (d : Did). drop (d .next .offered) (d .next .kept .slots)) o ∙ e))
+  offers-give (f ∷ fs) (c ∷ cs) (suc m) st y n e =
       let o : doesIn setup st c ≡ offerOf st (some f) = offer-does st c (f ∷ fs) (y .0) (y .1) e in
-      let n′ : length cs ≡ length fs + j = omega arith in
       let e′ : drop (doesIn setup st c .next .offered) (doesIn setup st c .next .kept .slots) ≡ fs
       = ap (λ (d : Did). drop (d .next .offered) (d .next .kept .slots)) o ∙ drop-next (st .kept .slots) (st .offered) f fs e in
       ap₂ (λ (a : Said) (l : List Said). a ∷ l) (ap said o)
-      (offers-give fs cs j (doesIn setup st c .next) (y .2) n′ e′ ∙ ap (λ (d : Did). giving (d .next .offered + 1) fs ++ replicate j sayingNone) o)
+      (offers-give fs cs (suc m) (doesIn setup st c .next) (y .2) (omega arith) e′
+      ∙ ap (λ (d : Did). take (length cs) (giving (d .next .offered + 1) fs ++ replicate (suc m) sayingNone)) o)
 
   offer-none : (st : State) (fs : List Slot) → offerOf st (first fs) .answer ≡ None → fs ≡ []
   offer-none st [] h = refl

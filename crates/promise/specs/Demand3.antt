@@ -160,14 +160,15 @@ module _ (setup : Setup) where
         → ¬ Waiting w (rest ++ away) n f → Waiting (step setup w (Cut k)) rest n f → taken n away ≡ true
     -- ---- offers
 
-    -- "offers after a begin-again, none refused, give every one of them in that order before they say none"
-    pub gives : (b : Call) (cs : List Call) (j : ℕ) → b .what ≡ Begin-again → Offers setup (doesIn setup (w .live) b .next) cs
-        → length cs ≡ length (waiting (w .live .kept)) + j
-        → saidBy setup (doesIn setup (w .live) b .next) cs ≡ giving (w .live .kept .acked + 1) (waiting (w .live .kept)) ++ replicate j sayingNone
+    -- "offers after a begin-again, none refused, give every one of them in that order before they say none": however many offers, so many of these are said
+    pub gives : (b : Call) (cs : List Call) → b .what ≡ Begin-again → Offers setup (doesIn setup (w .live) b .next) cs
+        → saidBy setup (doesIn setup (w .live) b .next) cs
+        ≡ take (length cs) (giving (w .live .kept .acked + 1) (waiting (w .live .kept)) ++ replicate (length cs) sayingNone)
     -- the same with other calls among the offers, but no second begin-again, no new day and no restart: where an offer then says none, the offers before it gave
     -- every fill that waited, in that order, and then those that were booked meanwhile
     pub between : (b c : Call) (cs : List Call) → b .what ≡ Begin-again → c .what ≡ Offer → plains cs ≡ true
         → doesIn setup (runs setup (doesIn setup (w .live) b .next) cs) c .answer ≡ None
-        → (more : List Slot) × (givenBy setup (doesIn setup (w .live) b .next) cs ≡ linesOf (w .live .kept .acked + 1) (waiting (w .live .kept) ++ more))
+        → (more : List Slot) × (runs setup (doesIn setup (w .live) b .next) cs .kept .slots ≡ w .live .kept .slots ++ more)
+        × (givenBy setup (doesIn setup (w .live) b .next) cs ≡ linesOf (w .live .kept .acked + 1) (waiting (w .live .kept) ++ more))
     -- what was given since the last begin-again, new day or restart: the fills from the mark of then up to the offered mark
     pub shown : w .shown .given ≡ linesOf (w .shown .base + 1) (take (w .live .offered - w .shown .base) (drop (w .shown .base) (w .live .kept .slots)))

@@ -1,6 +1,5 @@
 -- A day walked through: a Logon, a report, an offer and its acknowledge, and a cut into the last note. It shows what the words of the third demand mean, by computation.
 use Prim.Native.Nat.{ℕ}
-use Prim.Native.String.{String}
 use mathlib.Core.Path.{_≡_, refl}
 use mathlib.Core.List.{List, [], _∷_, _++_}
 use mathlib.Core.Bool.{Bool, true}
@@ -10,7 +9,7 @@ use Rattle.fill.specs.Slot.{Slot, lineFeed}
 use Rattle.book.specs.Place.{sumWhere}
 use Rattle.note.specs.Kept.{waiting}
 use Rattle.session.specs.declared.Own.the-variants.{Open}
-use Rattle.receiver.specs.Receiver.{What, Own-call, Message, Offer, Acknowledge, Lent}
+use Rattle.receiver.specs.Receiver.{Own-call, Message, Offer, Acknowledge, Lent}
 use Rattle.promise.specs.Cases.{agreed}
 use Rattle.promise.specs.World.{World, Step, Do, Cut, world, today, booked, acknowledged}
 
