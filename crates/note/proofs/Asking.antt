@@ -1,10 +1,9 @@
 -- What is told says what is read: the slot of an F note is the one in the bytes, and a note takes as many bytes as its class has.
 --     untold-told     the reading, from what is told of it and the bytes
-use Prim.Native.Nat.{ℕ, _+_, _≤_}
-use mathlib.Core.Path.{_≡_, refl, sym, ap, _∙_, subst}
+use Prim.Native.Nat.{ℕ}
+use mathlib.Core.Path.{_≡_, refl, sym, ap, _∙_}
 use mathlib.Core.List.{List, [], _∷_}
 use mathlib.Core.Option.{Option, none, some}
-use mathlib.Core.Bool.{Bool, cond}
 use native.Mathlib.Omega.{arith}
 use lib.ListN.{length, drop}
 use lib.Dec.{eqb, leb}
@@ -13,7 +12,7 @@ use Rattle.note.specs.declared.Read.{Read}
 use Rattle.note.specs.declared.Read.the-variants as read
 use Rattle.note.specs.Notes.{Note, Leaves, Books, Marks, Clears, bodySize, longestNote, slotAt, sayOf, Reading, Whole, Part, Unknown, sized, readBody, readNote, slotIn, told}
 use Rattle.note.proofs.Telling.{slot-whole}
-use Rattle.note.proofs.Keeping.{Readable, read-is}
+use Rattle.note.proofs.Keeping.{read-is}
 
 abbrev pub untold : List ℕ → Read → Reading
 untold s (read.Leaves e o) = Whole (Leaves e o) 9

@@ -143,9 +143,18 @@ pub all-append : (ss : List Slot) (s : Slot) → AllSlots ss → IsSlot s → Al
 all-append [] s h i = (i, tt)
 all-append (x ∷ ss) s h i = (h .0, all-append ss s (h .1) i)
 
+abbrev pub AllLawful : List Slot → Type 0
+AllLawful [] = Unit
+AllLawful (s ∷ ss) = (slotLawful s ≡ true) × AllLawful ss
+
+pub all-lawful : (ss : List Slot) (s : Slot) → AllLawful ss → slotLawful s ≡ true → AllLawful (ss ++ (s ∷ []))
+all-lawful [] s h i = (i, tt)
+all-lawful (x ∷ ss) s h i = (h .0, all-lawful ss s (h .1) i)
+
 pub record Sound (q : Kept) : Type 0 where
   pub few : length (q .slots) ≤ mostFills
   pub each : AllSlots (q .slots)
+  pub proper : AllLawful (q .slots)
   pub mark : q .acked ≤ length (q .slots)
   pub expected : q .e ≤ top
   pub next : q .o ≤ top
@@ -153,7 +162,7 @@ pub record Sound (q : Kept) : Type 0 where
 
 pub sound-empty : Sound empty
 sound-empty =
-    record { few = omega arith; each = tt; mark = omega arith; expected = omega arith; next = omega arith; orders-few = omega arith }
+    record { few = omega arith; each = tt; proper = tt; mark = omega arith; expected = omega arith; next = omega arith; orders-few = omega arith }
 
 orders-most : (ss : List Slot) (orders : ℕ) (s : Slot) → ordersWith ss orders s ≤ orders + 1
 unfolding ordersWith
@@ -163,10 +172,11 @@ pub sound-after : (q : Kept) (n : Note) → Sound q → Slotted n → lawful q n
 unfolding after
 sound-after q (Leaves e o) h w t =
     let f = lawful-leaves q e o t in
-    record { few = h .few; each = h .each; mark = h .mark; expected = f .3; next = f .4; orders-few = h .orders-few }
+    record { few = h .few; each = h .each; proper = h .proper; mark = h .mark; expected = f .3; next = f .4; orders-few = h .orders-few }
 sound-after q (Books e o s) h w t =
     let f = lawful-books q e o s t in
-    let room = room-fills (q .slots) (q .orders) s (bookable-facts (q .slots) (q .orders) s (f .3) .2) in
+    let fit = bookable-facts (q .slots) (q .orders) s (f .3) in
+    let room = room-fills (q .slots) (q .orders) s (fit .2) in
     let l : length (q .slots ++ (s ∷ [])) ≡ length (q .slots) + 1 = length-append (q .slots) (s ∷ []) in
     let r = orders-most (q .slots) (q .orders) s in
     let k = h .orders-few in
@@ -174,6 +184,7 @@ sound-after q (Books e o s) h w t =
     record {
       few = omega arith;
       each = all-append (q .slots) s (h .each) w;
+      proper = all-lawful (q .slots) s (h .proper) (fit .0);
       mark = omega arith;
       expected = f .1;
       next = subst (λ (x : ℕ). x ≤ top) (sym (f .2)) (h .next);
@@ -181,7 +192,7 @@ sound-after q (Books e o s) h w t =
     }
 sound-after q (Marks n) h w t =
     let f = lawful-marks q n t in
-    record { few = h .few; each = h .each; mark = f .1; expected = h .expected; next = h .next; orders-few = h .orders-few }
+    record { few = h .few; each = h .each; proper = h .proper; mark = f .1; expected = h .expected; next = h .next; orders-few = h .orders-few }
 sound-after q Clears h w t = sound-empty
 
 -- a lawful note fits its bytes

@@ -2,7 +2,7 @@
 use Prim.Native.Nat.{ℕ, _+_}
 use mathlib.Core.List.{List, [], _∷_, _++_}
 use mathlib.Core.Option.{Option, none, some}
-use mathlib.Core.Bool.{Bool, cond}
+use mathlib.Core.Bool.{cond}
 use lib.ListN.{length, drop, replicate}
 use lib.Dec.{leb, eqb}
 use Rattle.octet.specs.Bytes.{bytesOf, part}

@@ -1,6 +1,6 @@
 -- Laws of one note as the code takes it: when a note is lawful, test by test; the counts and the memory after it are what is kept after it; and
 -- what the step says of the whole restart.
-use Prim.Native.Nat.{ℕ, zero, suc, _+_, _-_, _*_, _≤_, _<_, min}
+use Prim.Native.Nat.{ℕ, _+_, _-_, _*_, _≤_, _<_, min}
 use mathlib.Core.Path.{_≡_, refl, sym, ap, ap₂, _∙_, subst}
 use mathlib.Core.Logic.{⊎-elim}
 use mathlib.Core.List.{List, [], _∷_, _++_}
@@ -9,20 +9,20 @@ use native.Mathlib.Nat.{min-eq-left}
 use native.Mathlib.Omega.{arith}
 use borrow.Author.Tests.{ltb-true}
 use lib.ListN.{length, take, drop, length-append, length-drop}
-use lib.Seq.{take-add, drop-drop}
+use lib.Seq.{drop-drop}
 use lib.Dec.{leb, ltb, eqb}
 use Rattle.octet.specs.Bytes.{part, joined}
 use Rattle.octet.specs.Splice.{splice}
 use Rattle.octet.proofs.Cases.{cond-true, cond-false, of-cond, or-cases, and-right, bool-case}
-use Rattle.octet.proofs.Lists.{drop-done}
+use Rattle.octet.proofs.Lists.{drop-done, splice-in}
 use Rattle.fill.specs.Slot.{Slot, slotLawful, slotWidth, mostFills, bookWidth}
 use Rattle.book.specs.Memory.{slotsIn, appended}
 use Rattle.book.specs.Place.{place, isNew, knownOrder, ordersWith, hasRoom, mostOrders}
 use Rattle.book.specs.Known.{largest}
-use Rattle.book.proofs.Slots.{slots-length, slots-append, appended-length}
+use Rattle.book.proofs.Slots.{slots-length, slots-append, appended-length, joined-slots, Wide, none-wide, more-wide, slots-joined}
 use Rattle.note.specs.Notes.{Note, Leaves, Books, Marks, Clears, Reading, Whole, Part, Unknown, readNote, taken}
 use Rattle.note.specs.Kept.{Kept, empty, bookable, top, lawful, after}
-use Rattle.note.proofs.Keeping.{Slotted, read-is, lawful-books, bookable-facts, room-fills}
+use Rattle.note.proofs.Keeping.{Slotted, read-is, lawful-books, bookable-facts, room-fills, AllSlots, Sound}
 use Rattle.restart.specs.declared.Counts.{Counts}
 use Rattle.restart.specs.declared.Step.{Step}
 use Rattle.restart.specs.declared.Step.the-variants as step
@@ -294,26 +294,40 @@ module _ (m : Counts) (mem : List ℕ) (e o : ℕ) (s : Slot) (t : true ≡ lawf
       of-cond (λ (x : ℕ). x ≤ largest) (knownOrder ss s) (λ f. h) (λ f. omega arith)))
       (or-cases (knownOrder ss s) (ltb (m .orders) mostOrders) r))
 
--- ---- the used slots of a memory are its front
-joined-slots : (n : ℕ) (mem : List ℕ) → n * slotWidth ≤ length mem → joined (slotsIn n mem) ≡ take (n * slotWidth) mem
-unfolding slotsIn
-joined-slots zero mem h = refl
-joined-slots (suc n) mem h =
-    let k : slotWidth + n * slotWidth ≡ suc n * slotWidth = omega arith in
-    ap (λ (l : List ℕ). take slotWidth mem ++ l) (joined-slots n (drop slotWidth mem) (omega (arith, length-drop slotWidth mem)))
-    ∙ sym (take-add slotWidth (n * slotWidth) mem)
-    ∙ ap (λ (j : ℕ). take j mem) k
-
+-- ---- the used slots of the replay are copied into the book
 -- only they are written
 pub book-is : (o : Outcome) (book mem : List ℕ) (k : Counts) (whole most : ℕ) → restarted.Again k whole ≡ told o → HasSlots mem o → GivenIn most o → length mem ≡ bookWidth
     → splice book 0 (part 0 (k .fills * slotWidth) mem) ≡ bookAfter book o
 book-is (Again q w) book mem k whole most e h g l =
     let f : k ≡ countsOf q = cc in
-    let few = g .sound .few in
     ap (splice book 0)
-    (ap (λ (x : Counts). take (x .fills * slotWidth) mem) f ∙ sym (joined-slots (length (q .slots)) mem (omega arith)) ∙ ap joined h)
+    (ap (λ (x : Counts). take (x .fills * slotWidth) mem) f ∙ sym (joined-slots (length (q .slots)) mem) ∙ ap joined h)
 book-is (Unlawful at) book mem k whole most e h g l = never cc
 
 pub book-stays : (o : Outcome) (book : List ℕ) (at : ℕ) → restarted.Unlawful at ≡ told o → book ≡ bookAfter book o
 book-stays (Again q w) book at e = never cc
 book-stays (Unlawful p) book at e = refl
+
+-- and stand there then
+slots-all-wide : (ss : List Slot) → AllSlots ss → Wide ss
+slots-all-wide [] h = none-wide
+slots-all-wide (s ∷ ss) h = more-wide (h .0 .wide) (slots-all-wide ss (h .1))
+
+joined-length : (ss : List Slot) → AllSlots ss → length (joined ss) ≡ length ss * slotWidth
+joined-length [] h = refl
+joined-length (s ∷ ss) h = omega (arith, length-append s (joined ss), joined-length ss (h .1), h .0 .wide)
+
+pub book-slots : (q : Kept) (whole : ℕ) (book : List ℕ) → Sound q → length book ≡ bookWidth → slotsIn (length (q .slots)) (bookAfter book (Again q whole)) ≡ q .slots
+book-slots q whole book h l =
+    let few = h .few in
+    let j = joined-length (q .slots) (h .each) in
+    ap (slotsIn (length (q .slots))) (splice-in book 0 (joined (q .slots)) (omega arith))
+    ∙ slots-joined (q .slots) (drop (0 + length (joined (q .slots))) book) (slots-all-wide (q .slots) (h .each))
+
+pub slots-there : (o : Outcome) (book book′ : List ℕ) (most : ℕ) → GivenIn most o → book′ ≡ bookAfter book o → length book ≡ bookWidth → HasSlots book′ o
+slots-there (Again q w) book book′ most g e l = ap (slotsIn (length (q .slots))) e ∙ book-slots q w book (g .sound) l
+slots-there (Unlawful at) book book′ most g e l = tt
+
+pub slots-none : (o : Outcome) (mem : List ℕ) (at : ℕ) → restarted.Unlawful at ≡ told o → HasSlots mem o
+slots-none (Again q w) mem at e = never cc
+slots-none (Unlawful p) mem at e = tt

@@ -236,7 +236,7 @@ fn replay(mem: &mut [u8; BOOK], notes: &[u8]) -> Restarted
 // A restart into the lent book. The notes are replayed into an array of the call's own, and only the used slots are copied:
 // where a note is unlawful the book stays as it was, and a fill of a day before leaves no trace.
 pub fn restart(book: &mut [u8; BOOK], notes: &[u8]) -> Restarted
-    ensures { λ r. ⌜ (r ≡ told (restart (now (notes .entry)))) × (now (book .exit) ≡ bookAfter (now (book .entry)) (restart (now (notes .entry)))) ⌝ }
+    ensures { λ r. ⌜ (r ≡ told (restart (now (notes .entry)))) × (now (book .exit) ≡ bookAfter (now (book .entry)) (restart (now (notes .entry)))) × HasSlots (now (book .exit)) (restart (now (notes .entry))) ⌝ }
 {
     let mut mem = [0u8; BOOK];
     match replay(&mut mem, notes) {

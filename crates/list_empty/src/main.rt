@@ -1,0 +1,4 @@
+// The list program, run on no bytes.
+fn main() {
+    lister::list_input();
+}

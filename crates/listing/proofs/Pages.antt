@@ -1,0 +1,324 @@
+-- Laws of the listing: no listing has more than 65,536 bytes; its first line counts the waiting fills and their contracts; and the loops that sum
+-- the contracts and write the lines.
+use Prim.Native.Nat.{ℕ, zero, suc, _+_, _-_, _*_, _/_, _≤_, _<_, _^_, min}
+use mathlib.Core.Path.{_≡_, sym, ap, ap₂, _∙_, subst}
+use mathlib.Core.List.{List, [], _∷_, _++_}
+use mathlib.Core.Bool.{true, cond, _&&_}
+use native.Mathlib.Nat.{sub-self}
+use native.Mathlib.Omega.{arith}
+use lib.ListN.{length, take, drop, length-append, length-take, length-drop}
+use lib.Seq.{take-add, drop-drop, take-all, take-append-seam, drop-append-seam}
+use lib.Dec.{leb}
+use borrow.Author.Tests.{leb-true, ltb-false, lt-ltb, le-ltb}
+use Rattle.octet.specs.Bytes.{between, part}
+use Rattle.octet.specs.Padded.{textOf}
+use Rattle.octet.specs.Splice.{splice, fitsAt}
+use Rattle.octet.proofs.Cases.{of-cond, cond-true, cond-false, and-both, and-left, and-right}
+use Rattle.octet.proofs.Lists.{part-most, between-high, splice-join, splice-then, splice-nil, splice-read, splice-length, fits-true}
+use Rattle.text.specs.Decimal.{priceText}
+use Rattle.text.proofs.Decimals.{decimal-length, fixed-length}
+use Rattle.value.specs.Value.{isTime}
+use Rattle.fill.specs.Slot.{Slot, slotWidth, placeOf, widthOf, isFill, execOf, orderOf, symbolOf, sideOf, sharesOf, priceOf, timeOf, textsLawful, sumsLawful, slotLawful, lineOf}
+use Rattle.fill.proofs.Lawful.{lawful-sums}
+use Rattle.book.specs.Memory.{slotsIn}
+use Rattle.book.specs.Place.{sumWhere}
+use Rattle.book.proofs.Slots.{slots-length, slots-drop, slots-next, slots-last}
+use Rattle.note.specs.Kept.{Kept, waiting}
+use Rattle.note.proofs.Keeping.{AllLawful}
+use Rattle.restart.specs.Restart.{Outcome, Again, Unlawful, restart, countsOf, told, bookAfter}
+use Rattle.restart.specs.declared.Counts.{Counts}
+use Rattle.restart.specs.declared.Restarted.the-variants as restarted
+use Rattle.restart.specs.Steps.{HasSlots}
+use Rattle.text.specs.declared.Text.{Text}
+use Rattle.text.specs.Writing.{empty, puts, held}
+use Rattle.text.proofs.Puts.{puts-puts, held-short}
+use Rattle.restart.proofs.Going.{GivenIn, restart-given}
+use Rattle.listing.specs.Listing.{contracts, linesFrom, firstOf, firstLine, damaged, waitingPage, printed, longestFile, isTooLong, tooLong, listing, bookListed}
+
+-- ---- how long a line is: that of a lawful slot has at most 99 bytes
+lawful-figures : (s : Slot) → slotLawful s ≡ true → (sideOf s ≤ 2) × (priceOf s ≤ 99999999999)
+unfolding slotLawful
+lawful-figures s t =
+    let a = and-left (textsLawful s && between 1 2 (sideOf s) && sumsLawful s && leb (priceOf s) 99999999999) (isTime (timeOf s)) t in
+    let b = and-both (textsLawful s && between 1 2 (sideOf s) && sumsLawful s) (leb (priceOf s) 99999999999) a in
+    let d = and-left (textsLawful s && between 1 2 (sideOf s)) (sumsLawful s) (b .0) in
+    (between-high 1 2 (sideOf s) (and-right (textsLawful s) (between 1 2 (sideOf s)) d), leb-true (priceOf s) 99999999999 (b .1))
+
+pub lawful-shares : (s : Slot) → slotLawful s ≡ true → sharesOf s ≤ 999999
+lawful-shares s t =
+    let f = lawful-sums s t in
+    let a = f .cum in
+    let b = f .quantity in
+    let d = f .most in
+    omega arith
+
+text-most : (width : ℕ) (f : List ℕ) → length f ≤ suc width → length (textOf f) ≤ width
+unfolding textOf
+text-most width f h = simp (length-take, length-drop) (omega arith)
+
+pub line-most : (n : ℕ) (s : Slot) → n < 1000 → slotLawful s ≡ true → length (lineOf n s) ≤ 99
+unfolding lineOf priceText
+line-most n s hn t =
+    let z = lawful-figures s t in
+    let q = lawful-shares s t in
+    let p = z .1 in
+    let w = z .0 in
+    let a = decimal-length 2 n (omega arith) in
+    let b = text-most 20 (execOf s) (part-most (placeOf 0) (widthOf 0) s) in
+    let d = text-most 20 (orderOf s) (part-most (placeOf 1) (widthOf 1) s) in
+    let e = text-most 8 (symbolOf s) (part-most (placeOf 2) (widthOf 2) s) in
+    let f = decimal-length 0 (sideOf s) (omega arith) in
+    let g = decimal-length 5 (sharesOf s) (omega arith) in
+    let h = decimal-length 6 (priceOf s / 10000) (omega arith) in
+    let i = part-most (placeOf 8) (widthOf 8) s in
+    simp (length-append, fixed-length) (omega arith)
+
+lines-most : (ss : List Slot) (n : ℕ) → n + length ss ≤ 1000 → AllLawful ss → length (linesFrom n ss) ≤ 99 * length ss
+unfolding linesFrom
+lines-most [] n h w = omega arith
+lines-most (s ∷ ss) n h w =
+    omega (arith, length-append (lineOf n s) (linesFrom (n + 1) ss), line-most n s (omega arith) (w .0), lines-most ss (n + 1) (omega arith) (w .1))
+
+sum-most : (ss : List Slot) → AllLawful ss → contracts ss ≤ 999999 * length ss
+unfolding sumWhere
+sum-most [] w = omega arith
+sum-most (s ∷ ss) w =
+    let a : cond (isFill s) (sharesOf s) 0 ≤ 999999 = of-cond (λ (n : ℕ). n ≤ 999999) (isFill s) (λ e. lawful-shares s (w .0)) (λ e. omega arith) in
+    omega (arith, sum-most ss (w .1))
+
+pub first-most : (n sum : ℕ) → n < 10 ^ 20 → sum < 10 ^ 20 → length (firstOf n sum) ≤ 60
+unfolding firstOf
+first-most n sum hn hs =
+    let a = decimal-length 19 n hn in
+    let b = decimal-length 19 sum hs in
+    simp length-append (omega arith)
+
+pub damaged-most : (at : ℕ) → at < 10 ^ 20 → length (damaged at) ≤ 32
+unfolding damaged
+damaged-most at h = let a = decimal-length 19 at h in simp length-append (omega arith)
+
+all-drop : (k : ℕ) (ss : List Slot) → AllLawful ss → AllLawful (drop k ss)
+all-drop zero ss w = w
+all-drop (suc k) [] w = tt
+all-drop (suc k) (s ∷ ss) w = all-drop k ss (w .1)
+
+printed-most : (most : ℕ) (o : Outcome) → most ≤ longestFile → GivenIn most o → length (printed o) ≤ longestFile
+printed-most most (Unlawful at) h g = omega (arith, damaged-most at (omega arith))
+printed-most most (Again q whole) h g =
+    let ws = waiting q in
+    let few = g .sound .few in
+    let mark = g .sound .mark in
+    let w : AllLawful ws = all-drop (q .acked) (q .slots) (g .sound .proper) in
+    let l = length-drop (q .acked) (q .slots) in
+    let c = sum-most ws w in
+    let a = first-most (length ws) (contracts ws) (omega arith) (omega arith) in
+    let b = lines-most ws (q .acked + 1) (omega arith) w in
+    omega (arith, length-append (firstLine ws) (linesFrom (q .acked + 1) ws))
+
+-- 65,536 bytes are always enough
+pub listing-most : (notes : List ℕ) → length (listing notes) ≤ longestFile
+unfolding listing
+listing-most notes =
+    of-cond (λ (l : List ℕ). length l ≤ longestFile) (isTooLong notes)
+    (λ e. omega arith)
+    (λ e. printed-most (length notes) (restart notes) (ltb-false longestFile (length notes) e) (restart-given notes))
+
+-- ---- which listing it is
+pub listing-long : (notes : List ℕ) → longestFile < length notes → listing notes ≡ tooLong
+unfolding listing
+listing-long notes h = cond-true (isTooLong notes) tooLong (printed (restart notes)) (lt-ltb longestFile (length notes) h)
+
+pub listing-is : (notes : List ℕ) → length notes ≤ longestFile → listing notes ≡ printed (restart notes)
+unfolding listing
+listing-is notes h = cond-false (isTooLong notes) tooLong (printed (restart notes)) (le-ltb longestFile (length notes) h)
+
+-- the first line counts the waiting fills and their contracts, and their lines follow
+pub listing-counts : (notes : List ℕ) (q : Kept) (whole : ℕ) → length notes ≤ longestFile → restart notes ≡ Again q whole
+    → listing notes ≡ firstOf (length (waiting q)) (contracts (waiting q)) ++ linesFrom (q .acked + 1) (waiting q)
+listing-counts notes q whole h e = listing-is notes h ∙ ap printed e
+
+-- ---- the loops: the slots from the i-th on
+module _ (n i : ℕ) (m : List ℕ) where
+  pub slots-step : i < n → drop i (slotsIn n m) ≡ part (i * slotWidth) slotWidth m ∷ drop (i + 1) (slotsIn n m)
+  slots-step h =
+      slots-drop n i m ∙ slots-next n i m h ∙ ap (λ (l : List Slot). part (i * slotWidth) slotWidth m ∷ l) (sym (slots-drop n (i + 1) m))
+
+  pub slots-end : n ≤ i → drop i (slotsIn n m) ≡ []
+  slots-end h = slots-drop n i m ∙ slots-last n i (drop (i * slotWidth) m) h
+
+  pub sum-step : (s : Slot) → i < n → s ≡ part (i * slotWidth) slotWidth m
+      → contracts (drop i (slotsIn n m)) ≡ cond (isFill s) (sharesOf s) 0 + contracts (drop (i + 1) (slotsIn n m))
+  unfolding sumWhere
+  sum-step s h e =
+      ap contracts (slots-step h) ∙ ap (λ (x : Slot). cond (isFill x) (sharesOf x) 0 + contracts (drop (i + 1) (slotsIn n m))) (sym e)
+
+  pub sum-done : n ≤ i → contracts (drop i (slotsIn n m)) ≡ 0
+  unfolding sumWhere
+  sum-done h = ap contracts (slots-end h)
+
+  pub lines-step : (s : Slot) → i < n → s ≡ part (i * slotWidth) slotWidth m
+      → linesFrom (i + 1) (drop i (slotsIn n m)) ≡ lineOf (i + 1) s ++ linesFrom (i + 1 + 1) (drop (i + 1) (slotsIn n m))
+  unfolding linesFrom
+  lines-step s h e =
+      ap (linesFrom (i + 1)) (slots-step h) ∙ ap (λ (x : Slot). lineOf (i + 1) x ++ linesFrom (i + 1 + 1) (drop (i + 1) (slotsIn n m))) (sym e)
+
+  pub lines-done : n ≤ i → linesFrom (i + 1) (drop i (slotsIn n m)) ≡ []
+  unfolding linesFrom
+  lines-done h = ap (linesFrom (i + 1)) (slots-end h)
+
+-- a text written part by part: `done` bytes of it stand there, and one part more
+module _ (page₀ whole : List ℕ) (at done : ℕ) where
+  pub write-more : (page page′ x rest : List ℕ) → at + length whole ≤ length page₀ → page ≡ splice page₀ at (take done whole) → done ≤ length whole → drop done whole ≡ x ++ rest
+      → page′ ≡ splice page (at + done) x
+      → (page′ ≡ splice page₀ at (take (done + length x) whole)) × (done + length x ≤ length whole) × (drop (done + length x) whole ≡ rest)
+  write-more page page′ x rest room e h d f =
+      let ld = length-drop done whole in
+      let lx = ap length d ∙ length-append x rest in
+      let lt : length (take done whole) ≡ done = length-take done whole ∙ (let k : min done (length whole) ≡ done = omega arith in k) in
+      let cut : take done whole ++ x ≡ take (done + length x) whole =
+      ap (λ (l : List ℕ). take done whole ++ l) (sym (take-append-seam x rest) ∙ ap (take (length x)) (sym d)) ∙ sym (take-add done (length x) whole) in (
+        f ∙ ap (λ (l : List ℕ). splice l (at + done) x) e
+            ∙ ap (λ (k : ℕ). splice (splice page₀ at (take done whole)) (at + k) x) (sym lt)
+            ∙ splice-join page₀ at (take done whole) x (omega arith)
+            ∙ ap (splice page₀ at) cut,
+        omega arith,
+        sym (drop-drop (length x) done whole) ∙ ap (drop (length x)) d ∙ drop-append-seam x rest,
+      )
+
+  pub write-done : (page : List ℕ) → page ≡ splice page₀ at (take done whole) → done ≤ length whole → drop done whole ≡ [] → (page ≡ splice page₀ at whole) × (done ≡ length whole)
+  write-done page e h d =
+      let l : length whole ≤ done = omega (arith, length-drop done whole, ap length d) in
+      (e ∙ ap (splice page₀ at) (take-all done whole l), omega arith)
+  -- before the first part
+
+pub write-start : (page whole : List ℕ) (at : ℕ) → (page ≡ splice page at (take (at - at) whole)) × (drop (at - at) whole ≡ whole)
+write-start page whole at = (sym (ap (λ (k : ℕ). splice page at (take k whole)) (sub-self at) ∙ splice-nil page at), ap (λ (k : ℕ). drop k whole) (sub-self at))
+
+-- ---- the lines, from fill from + 1 on: so far up to place `end`, with those from the i-th on to come
+abbrev pub AllLines : ℕ → ℕ → List ℕ → List ℕ
+AllLines from fills book = linesFrom (from + 1) (drop from (slotsIn fills book))
+
+pub record Lined (page₀ book : List ℕ) (at from fills : ℕ) (page : List ℕ) (end i : ℕ) : Type 0 where
+  pub stands : page ≡ splice page₀ at (take (end - at) (AllLines from fills book))
+  pub to-come : drop (end - at) (AllLines from fills book) ≡ linesFrom (i + 1) (drop i (slotsIn fills book))
+  pub after : at ≤ end
+  pub within : end - at ≤ length (AllLines from fills book)
+
+pub lined-start : (page book : List ℕ) (at from fills : ℕ) → Lined page book at from fills page at from
+lined-start page book at from fills =
+    let g = write-start page (AllLines from fills book) at in
+    record { stands = g .0; to-come = g .1; after = omega arith; within = omega arith }
+
+pub lined-turn : (page₀ book page page′ : List ℕ) (at from fills end i n len : ℕ) (s : Slot) → at + length (AllLines from fills book) ≤ length page₀
+    → Lined page₀ book at from fills page end i → i < fills → n ≡ i + 1 → s ≡ part (i * slotWidth) slotWidth book → page′ ≡ splice page end (lineOf n s) → len ≡ length (lineOf n s)
+    → Lined page₀ book at from fills page′ (end + len) (i + 1) × (end + len ≤ at + length (AllLines from fills book))
+lined-turn page₀ book page page′ at from fills end i n len s room h b en es ep el =
+    let whole = AllLines from fills book in
+    let rest = linesFrom (i + 1 + 1) (drop (i + 1) (slotsIn fills book)) in
+    let done = end - at in
+    let x = lineOf (i + 1) s in
+    let a = h .after in
+    let w = h .within in
+    let e : end ≡ at + done = omega arith in
+    let lx : len ≡ length x = el ∙ ap (λ (k : ℕ). length (lineOf k s)) en in
+    let d : drop done whole ≡ x ++ rest = h .to-come ∙ lines-step fills i book s b es in
+    let f : page′ ≡ splice page (at + done) x = ep ∙ ap₂ (λ (k j : ℕ). splice page k (lineOf j s)) e en in
+    let g = write-more page₀ whole at done page page′ x rest room (h .stands) w d f in
+    let k : done + length x ≡ end + len - at = omega arith in
+    let m = g .1 in (
+      record {
+        stands = g .0 ∙ ap (λ (j : ℕ). splice page₀ at (take j whole)) k;
+        to-come = sym (ap (λ (j : ℕ). drop j whole) k) ∙ g .2;
+        after = omega arith;
+        within = omega arith;
+      },
+      omega arith,
+    )
+
+pub lined-done : (page₀ book page : List ℕ) (at from fills end i : ℕ) → Lined page₀ book at from fills page end i → fills ≤ i
+    → (page ≡ splice page₀ at (AllLines from fills book)) × (end ≡ at + length (AllLines from fills book))
+lined-done page₀ book page at from fills end i h b =
+    let a = h .after in
+    let g = write-done page₀ (AllLines from fills book) at (end - at) page (h .stands) (h .within) (h .to-come ∙ lines-done fills i book b) in
+    let l = g .1 in
+    (g .0, omega arith)
+
+-- ---- what was written over zeros is read back
+pub written-back : (z l z′ x : List ℕ) (len : ℕ) → length l ≤ length z → z′ ≡ splice z 0 l → len ≡ length l → x ≡ part 0 len z′ → x ≡ l
+written-back z l z′ x len h e f g = g ∙ ap₂ (part 0) f e ∙ splice-read z 0 l (omega arith)
+
+pub line-length : (z l : List ℕ) (len : ℕ) → length l ≤ length z → len ≡ cond (fitsAt z 0 l) (length l) 0 → len ≡ length l
+line-length z l len h e = e ∙ cond-true (fitsAt z 0 l) (length l) 0 (fits-true z 0 l (omega arith))
+
+-- ---- texts
+pub text-three : {t₀ t₁ t₂ t₃ : Text} (a b d : List ℕ) → t₀ ≡ empty → t₁ ≡ puts t₀ a → t₂ ≡ puts t₁ b → t₃ ≡ puts t₂ d → t₃ ≡ puts empty (a ++ b ++ d)
+text-three a b d e₀ e₁ e₂ e₃ =
+    e₃ ∙ ap (λ (t : Text). puts t d) (e₂ ∙ ap (λ (t : Text). puts t b) (e₁ ∙ ap (λ (t : Text). puts t a) e₀) ∙ puts-puts empty a b) ∙ puts-puts empty (a ++ b) d
+
+-- a text that is placed at the front of a page
+pub placed : (page page′ x : List ℕ) (t : Text) (r : ℕ) → t ≡ puts empty x → length x ≤ 512 → length x ≤ length page → page′ ≡ splice page 0 (held t)
+    → r ≡ cond (fitsAt page 0 (held t)) (0 + length (held t)) 0 → (page′ ≡ splice page 0 x) × (r ≡ length x)
+placed page page′ x t r et short room ep er =
+    let e : held t ≡ x = ap held et ∙ held-short x short in (
+      ep ∙ ap (splice page 0) e,
+      er ∙ ap (λ (l : List ℕ). cond (fitsAt page 0 l) (0 + length l) 0) e ∙ cond-true (fitsAt page 0 x) (0 + length x) 0 (fits-true page 0 x (omega arith)) ∙ (let i : 0 + length x ≡ length x = omega arith in i),
+    )
+
+-- the first line and then the others
+pub page-whole : (page page₁ page₂ first lines : List ℕ) (end r : ℕ) → length (first ++ lines) ≤ length page → page₁ ≡ splice page 0 first → end ≡ length first
+    → page₂ ≡ splice page₁ end lines → r ≡ end + length lines → (page₂ ≡ splice page 0 (first ++ lines)) × (r ≡ length (first ++ lines))
+page-whole page page₁ page₂ first lines end r h e₁ en e₂ er =
+    let l = length-append first lines in
+    (e₂ ∙ ap (λ (p : List ℕ). splice p end lines) e₁ ∙ splice-then page 0 end first lines (omega arith) (omega arith), omega arith)
+
+-- ---- what a restart gave, as the code has it
+never : {A : Type 0} → _≡_ {A = ℕ} 0 1 → A
+never z = absurd (omega arith)
+
+pub record Paged (o : Outcome) (k : Counts) (book : List ℕ) : Type 0 where
+  pub page : waitingPage (k .acked) (slotsIn (k .fills) book) ≡ printed o
+  pub few : k .fills ≤ 512
+  pub mark : k .acked ≤ k .fills
+
+pub paged : (o : Outcome) (k : Counts) (whole most : ℕ) (book : List ℕ) → restarted.Again k whole ≡ told o → GivenIn most o → HasSlots book o → Paged o k book
+paged (Unlawful at) k whole most book e g h = never cc
+paged (Again q w) k whole most book e g h =
+    let f : k ≡ countsOf q = cc in
+    subst (λ (x : Counts). Paged (Again q w) x book) (sym f)
+    (record { page = ap (waitingPage (q .acked)) h; few = g .sound .few; mark = g .sound .mark })
+
+pub damaged-is : (o : Outcome) (at : ℕ) → restarted.Unlawful at ≡ told o → damaged at ≡ printed o
+damaged-is (Again q w) at e = never cc
+damaged-is (Unlawful p) at e = let f : at ≡ p = cc in ap damaged f
+
+pub book-long : (book notes : List ℕ) → longestFile < length notes → book ≡ bookListed book notes
+unfolding bookListed
+book-long book notes h = sym (cond-true (isTooLong notes) book (bookAfter book (restart notes)) (lt-ltb longestFile (length notes) h))
+
+pub book-is : (book notes : List ℕ) → length notes ≤ longestFile → bookAfter book (restart notes) ≡ bookListed book notes
+unfolding bookListed
+book-is book notes h = sym (cond-false (isTooLong notes) book (bookAfter book (restart notes)) (le-ltb longestFile (length notes) h))
+
+pub printed-fits : (notes : List ℕ) → length notes ≤ longestFile → length (printed (restart notes)) ≤ longestFile
+printed-fits notes h = subst (λ (l : List ℕ). length l ≤ longestFile) (listing-is notes h) (listing-most notes)
+
+pub damaged-at : (o : Outcome) (at most : ℕ) → restarted.Unlawful at ≡ told o → GivenIn most o → at ≤ most
+damaged-at (Again q w) at most e g = never cc
+damaged-at (Unlawful p) at most e g = let f : at ≡ p = cc in omega arith
+
+-- ---- the page of the waiting fills: its first line stands, and there is room for the others
+module _ (f k sum end : ℕ) (book page page₁ : List ℕ) (t : Text) where
+  pub headed : k ≤ f → f ≤ 512 → length (waitingPage k (slotsIn f book)) ≤ length page → sum ≡ contracts (drop k (slotsIn f book)) → sum ≤ 2199023255040
+      → t ≡ puts empty (firstOf (f - k) sum) → page₁ ≡ splice page 0 (held t) → end ≡ cond (fitsAt page 0 (held t)) (0 + length (held t)) 0
+      → (page₁ ≡ splice page 0 (firstLine (drop k (slotsIn f book)))) × (end ≡ length (firstLine (drop k (slotsIn f book)))) × (end + length (AllLines k f book) ≤ length page₁)
+  headed hk hf room es hs et ep en =
+      let first = firstLine (drop k (slotsIn f book)) in
+      let ld : length (drop k (slotsIn f book)) ≡ f - k = length-drop k (slotsIn f book) ∙ ap (λ (n : ℕ). n - k) (slots-length f book) in
+      let ex : firstOf (f - k) sum ≡ first = ap₂ firstOf (sym ld) es in
+      let short = first-most (f - k) sum (omega arith) (omega arith) in
+      let lx = ap length ex in
+      let whole = length-append first (AllLines k f book) in
+      let g = placed page page₁ (firstOf (f - k) sum) t end et (omega arith) (omega arith) ep en in
+      let lp : length page₁ ≡ length page = ap length (g .0) ∙ splice-length page 0 (firstOf (f - k) sum) in
+      let e : end ≡ length first = g .1 ∙ lx in
+      (g .0 ∙ ap (splice page 0) ex, e, omega arith)

@@ -1,0 +1,56 @@
+-- "What the listing prints".
+use Prim.Native.Nat.{ℕ, _+_}
+use mathlib.Core.List.{List, [], _∷_, _++_}
+use mathlib.Core.Bool.{Bool, cond}
+use lib.ListN.{length, drop}
+use lib.Dec.{ltb}
+use Rattle.octet.specs.Bytes.{bytesOf}
+use Rattle.text.specs.Decimal.{decimal}
+use Rattle.fill.specs.Slot.{Slot, isFill, lineOf, lineFeed}
+use Rattle.book.specs.Place.{sumWhere}
+use Rattle.restart.specs.Restart.{Outcome, Again, Unlawful, restart, bookAfter}
+
+-- the contracts of fills: the sum of their LastShares
+abbrev pub contracts : List Slot → ℕ
+contracts ss = sumWhere isFill ss
+
+-- a line for each, the first numbered n; "each line of the listing ends in a line feed"
+unfoldable pub linesFrom : ℕ → List Slot → List ℕ
+linesFrom n [] = []
+linesFrom n (s ∷ ss) = lineOf n s ++ linesFrom (n + 1) ss
+
+-- "first line, fills waiting and their contracts"
+unfoldable pub firstOf : ℕ → ℕ → List ℕ
+firstOf fills sum = bytesOf "waiting " ++ decimal fills ++ bytesOf " contracts " ++ decimal sum ++ lineFeed
+
+abbrev pub firstLine : List Slot → List ℕ
+firstLine ss = firstOf (length ss) (contracts ss)
+
+-- "else refusal 8 prints only `damaged at P`"
+unfoldable pub damaged : ℕ → List ℕ
+damaged at = bytesOf "damaged at " ++ decimal at ++ lineFeed
+
+-- the fills above the mark
+abbrev pub waitingPage : ℕ → List Slot → List ℕ
+waitingPage acked ss = firstLine (drop acked ss) ++ linesFrom (acked + 1) (drop acked ss)
+
+abbrev pub printed : Outcome → List ℕ
+printed (Unlawful at) = damaged at
+printed (Again q whole) = waitingPage (q .acked) (q .slots)
+
+-- "Over 65,536 bytes it prints only `too long`"
+abbrev pub longestFile : ℕ
+longestFile = 65536
+
+abbrev pub isTooLong : List ℕ → Bool
+isTooLong notes = ltb longestFile (length notes)
+
+abbrev pub tooLong : List ℕ
+tooLong = bytesOf "too long" ++ lineFeed
+
+unfoldable pub listing : List ℕ → List ℕ
+listing notes = cond (isTooLong notes) tooLong (printed (restart notes))
+
+-- the lent book after it: that of the restart, which a file that is too long does not come to
+unfoldable pub bookListed : List ℕ → List ℕ → List ℕ
+bookListed book notes = cond (isTooLong notes) book (bookAfter book (restart notes))
