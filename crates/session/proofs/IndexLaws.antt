@@ -1,5 +1,5 @@
 -- By its own index a message gives the facts of its pieces, and is judged as by them.
-use mathlib.Core.Path.{_≡_, refl, sym, ap, _∙_}
+use mathlib.Core.Path.{_≡_, sym, ap, _∙_}
 use mathlib.Core.List.{List}
 use mathlib.Core.Option.{Option}
 use Prim.Native.Nat.{ℕ}
@@ -16,7 +16,7 @@ use Rattle.answer.specs.declared.Kind.{Kind}
 use Rattle.answer.specs.declared.Fault.{Fault}
 use Rattle.session.specs.declared.Session.{Session}
 use Rattle.session.specs.Judging.{factsOf, factsIn, judgedBy, judge}
-use Rattle.session.specs.Indexed.{fieldBy, kindBy, factsBy}
+use Rattle.session.specs.Indexed.{fieldBy, factsBy}
 
 module _ (setup : Setup) (s : Session) (body : List ℕ) where
   field-law : _≡_ {A = ℕ → Option (List ℕ)} (λ (tag : ℕ). fieldBy body (indexOf body) tag) (λ (tag : ℕ). firstOf tag (piecesOf body))

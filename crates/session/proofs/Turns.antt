@@ -5,15 +5,14 @@
 --     judge-report, judge-asks     the same of a message by its pieces
 --     settled-numbers, own-numbers, rejected-numbers, passed-numbers     E and O are not lowered, and stay within nine digits
 use mathlib.Core.Path.{_≡_, refl, sym, ap, _∙_, subst}
-use mathlib.Core.Logic.{_⊎_, inl, inr, ⊎-elim}
 use mathlib.Core.List.{List}
 use mathlib.Core.Option.{Option, none, some}
 use mathlib.Core.Bool.{Bool, true, false, cond, _&&_, _||_, not}
-use Prim.Native.Nat.{ℕ, _+_, _-_, _≤_, _<_, min}
+use Prim.Native.Nat.{ℕ, _+_, _-_, _≤_}
 use native.Mathlib.Omega.{arith}
 use lib.Dec.{leb, ltb, eqb}
 use borrow.Author.Tests.{eq-eqb, eqb-true, ltb-true}
-use Rattle.octet.proofs.Cases.{of-cond, true-not-false, or-cases, bool-case}
+use Rattle.octet.proofs.Cases.{of-cond, true-not-false}
 use Rattle.value.specs.Readers.{numberRead}
 use Rattle.value.specs.declared.Number.{Number}
 use Rattle.value.specs.declared.Number.the-variants as number
@@ -22,7 +21,7 @@ use Rattle.field.specs.Pieces.{Pieces, firstOf}
 use Rattle.field.specs.declared.Index.{Index}
 use Rattle.table.specs.Rows.{kindIn}
 use Rattle.table.specs.Steps.{faultIn}
-use Rattle.answer.specs.Numbers.{fault, inside, isKind, counted}
+use Rattle.answer.specs.Numbers.{fault, inside, isKind}
 use Rattle.answer.specs.declared.Setup.{Setup}
 use Rattle.answer.specs.declared.Phase.{Phase}
 use Rattle.answer.specs.declared.Phase.the-variants as phase
@@ -37,7 +36,7 @@ use Rattle.wire.specs.declared.Say.the-variants as say
 use Rattle.wire.specs.declared.Reply.{Reply}
 use Rattle.wire.specs.declared.Reply.the-variants.{Nothing, One, Two}
 use Rattle.session.specs.Session.{into, expecting, asking, raised, judged, isIn, says, ownCall}
-use Rattle.session.specs.Judging.{Facts, ended, rejectedEnded, gapReply, answered, gapFill, numberIf, seqGiven, idsGiven, factsOf, factsIn, welcomed, logon, step3, resetMode, rejectedIf, rejected, passed, movedTo, loggedOut, effect, inTurn, belowIf, gap, due, step4, byPhase, step2, step1, judgedBy, judge}
+use Rattle.session.specs.Judging.{Facts, ended, rejectedEnded, gapReply, answered, gapFill, numberIf, seqGiven, idsGiven, factsOf, factsIn, logon, step3, resetMode, rejectedIf, rejected, passed, movedTo, loggedOut, effect, inTurn, belowIf, gap, due, step4, byPhase, step2, step1, judgedBy, judge}
 use Rattle.session.specs.Indexed.{fieldBy, factsBy}
 use Rattle.session.specs.declared.Own.{Own}
 use Rattle.session.specs.declared.Session.{Session}

@@ -1,5 +1,5 @@
 -- `session::is_reset` meets its contract.
-use mathlib.Core.Path.{_≡_, refl, sym, ap, _∙_}
+use mathlib.Core.Path.{ap}
 use mathlib.Core.Bool.{not}
 use borrow.Author.Needs.{needs}
 use Rattle.session.proofs.is_reset.Statement.{statement}

@@ -1,5 +1,5 @@
 -- `session::sequence` meets its contract.
-use mathlib.Core.Path.{_≡_, refl, sym, ap, _∙_}
+use mathlib.Core.Path.{ap}
 use borrow.Author.Tests.{eq-eqb, ne-eqb}
 use Rattle.session.specs.Judging.{numberIf}
 use borrow.Author.Needs.{needs}

@@ -1,5 +1,5 @@
 -- `session::Session::farewell` meets its contract.
-use mathlib.Core.Path.{_≡_, refl, sym, ap, _∙_}
+use mathlib.Core.Path.{sym, _∙_}
 use borrow.Author.Needs.{needs}
 use Rattle.session.proofs.Session.farewell.Statement.{statement}
 use Rattle.session.proofs.Session.farewell.Tie as tie

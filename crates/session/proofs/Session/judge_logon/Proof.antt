@@ -1,5 +1,5 @@
 -- `session::Session::judge_logon` meets its contract, test by test.
-use mathlib.Core.Path.{_≡_, refl, sym, ap, _∙_}
+use mathlib.Core.Path.{sym, ap, _∙_}
 use borrow.Author.Tests.{not-true, not-false}
 use Rattle.session.specs.Indexed.{factsBy}
 use Rattle.session.specs.Judging.{factsOf}
