@@ -23,16 +23,22 @@ use Rattle.receiver.specs.Calls.{owned, lost, message, offer, beginAgain
 use Rattle.receiver.specs.declared.Answer.{Answer}
 use Rattle.receiver.specs.declared.Answer.the-variants.{Done, Refused, More, Garbled, Framed, Offered, None, Acked, Already, Restarted}
 use Rattle.receiver.specs.declared.SetUp.{SetUp}
-use Rattle.receiver.specs.declared.SetUp.the-variants as setUp
+use Rattle.receiver.specs.declared.Leave.the-variants as leave
 
 -- ---- set up: "9: an agreed ID not 1 to 16 bytes of 33 to 126"
 
 abbrev pub goodId : List ℕ → Bool
 goodId id = between 1 16 (length id) && allIn 33 126 id
 
+unfoldable pub setupWith : List ℕ → List ℕ → Setup
+setupWith ours theirs = record { ours = idWith ours; theirs = idWith theirs }
+
+-- a refused set-up has no IDs
 unfoldable pub settingUp : List ℕ → List ℕ → SetUp
 settingUp ours theirs =
-    cond (goodId ours && goodId theirs) (setUp.Ready (record { ours = idWith ours; theirs = idWith theirs })) (setUp.Refused refusal.BadId)
+    cond (goodId ours && goodId theirs)
+    (record { leave = leave.Granted; setup = setupWith ours theirs })
+    (record { leave = leave.Refused refusal.BadId; setup = setupWith [] [] })
 
 -- ---- what is asked, and what is lent to it
 

@@ -1,6 +1,7 @@
 // The public calls of the receiver: refusals in their order, then the layers below. Every call is total; a refused one changes neither the state nor a lent byte.
 use answer::Id;
 use answer::Outcome;
+use answer::Phase;
 use answer::Refusal;
 use answer::Setup;
 use book::Placed;
@@ -13,13 +14,36 @@ use queue::Day;
 use queue::Marks;
 use queue::Offer;
 use report::Reported;
+use restart::Counts;
 use restart::Restarted;
 use session::Judged;
 use session::Own;
 use session::Session;
 use session::Verdict;
 use tally::Tally;
+use value::Check;
 use wire::Reply;
+ghost use mathlib.Core.Path.{_≡_};
+ghost use Prim.Native.Nat.{ℕ, _≤_, _<_};
+ghost use mathlib.Core.List.{List};
+ghost use lib.ListN.{length};
+ghost use Rattle.octet.specs.Splice.{splice};
+ghost use mathlib.Core.Bool.{true, _&&_};
+ghost use Rattle.value.specs.Value.{isTime};
+ghost use Rattle.answer.specs.Setup.{idWith};
+ghost use Rattle.note.specs.Kept.{empty};
+ghost use Rattle.fill.specs.Slot.{slotWidth};
+ghost use Rattle.book.specs.Memory.{slotsIn};
+ghost use Rattle.book.specs.Place.{place, hasRoom};
+ghost use Rattle.report.specs.Report.{reportedOf, slotFor};
+ghost use Rattle.report.specs.Indexed.{textBy, reportBy};
+ghost use Rattle.field.specs.Pieces.{piecesOf};
+ghost use Rattle.field.specs.Index.{indexOf};
+ghost use Rattle.receiver.specs.State.{woken, stored, seen, noteOfChange, bytesOfNote, toldOf, lineAfter, bookAfter};
+ghost use Rattle.receiver.specs.Receiver.{goodId, setupWith, settingUp, writing, Lent, does, Own-call, Line-lost, Message, Offer, Begin-again, Acknowledge, New-day, Restart};
+ghost use Rattle.session.specs.declared.Own.the-variants as own;
+ghost use Rattle.receiver.specs.Steps.{leaveOf, givenTime, plainly, lentTo, lentLine, isFresh, spoken, awake, placedTo, reportedTo, rulingBy, Written, Kept, Entered, Taken};
+ghost use Rattle.receiver.specs.Calls.{booked, framed, message};
 
 // What a receiver keeps by value; the day's fills are in the lent book.
 pub struct State {
@@ -56,7 +80,337 @@ pub struct Received {
     pub tally: Tally,
 }
 
-pub enum SetUp {
-    Ready(Setup),
+// Whether a call may go on, or why it is refused.
+pub enum Leave {
+    Granted,
     Refused(Refusal),
+}
+
+// What becomes of a framed message: the session settles it, it is booked, or there is no room for it.
+pub enum Ruling {
+    Settled(Judged),
+    Booked,
+    Full,
+}
+
+// A set-up, beside whether it may be used.
+pub struct SetUp {
+    pub leave: Leave,
+    pub setup: Setup,
+}
+
+// "an agreed ID not 1 to 16 bytes of 33 to 126".
+const LONGEST_ID: usize = 16;
+
+fn good_id(id: &[u8]) -> bool
+    ensures { λ r. ⌜ r ≡ goodId (now (id .entry)) ⌝ }
+{
+    if id.len() < 1 {
+        return false;
+    }
+    if LONGEST_ID < id.len() {
+        return false;
+    }
+    octet::all_in(id, 33, 126)
+}
+
+// An ID as it is kept: zeros after it.
+fn id_with(t: &[u8]) -> Id
+    ensures { λ r. ⌜ r ≡ idWith (now (t .entry)) ⌝ }
+{
+    let mut bytes = [0u8; LONGEST_ID];
+    octet::copy_into(&mut bytes, 0, t);
+    Id {
+        bytes,
+        len: t.len(),
+    }
+}
+
+fn setup_with(ours: &[u8], theirs: &[u8]) -> Setup
+    ensures { λ r. ⌜ r ≡ setupWith (now (ours .entry)) (now (theirs .entry)) ⌝ }
+{
+    Setup {
+        ours: id_with(ours),
+        theirs: id_with(theirs),
+    }
+}
+
+// Refusal 9.
+fn may_agree(ours: &[u8], theirs: &[u8]) -> bool
+    ensures { λ r. ⌜ r ≡ goodId (now (ours .entry)) && goodId (now (theirs .entry)) ⌝ }
+{
+    if !good_id(ours) {
+        return false;
+    }
+    good_id(theirs)
+}
+
+// Sets a receiver up with the agreed IDs; a refused set-up has none.
+pub fn set_up(ours: &[u8], theirs: &[u8]) -> SetUp
+    ensures { λ r. ⌜ r ≡ settingUp (now (ours .entry)) (now (theirs .entry)) ⌝ }
+{
+    if !may_agree(ours, theirs) {
+        return SetUp {
+            leave: Leave::Refused(Refusal::BadId),
+            setup: setup_with(b"", b""),
+        };
+    }
+    SetUp {
+        leave: Leave::Granted,
+        setup: setup_with(ours, theirs),
+    }
+}
+
+// "fresh: phase 0, E = O = 1", and nothing booked.
+pub fn fresh() -> State
+    ensures { λ r. ⌜ r ≡ stored (woken empty) ⌝ }
+{
+    State {
+        session: Session {
+            phase: Phase::Out,
+            e: 1,
+            o: 1,
+            asked: 0,
+        },
+        marks: Marks {
+            fills: 0,
+            orders: 0,
+            acked: 0,
+            offered: 0,
+        },
+    }
+}
+
+fn is_time(v: &[u8]) -> bool
+    ensures { λ r. ⌜ r ≡ isTime (now (v .entry)) ⌝ }
+{
+    match value::read_time(v) {
+        Check::Good => true,
+        Check::BadForm(_) => false,
+        Check::OutOfRange => false,
+    }
+}
+
+// "a 21-byte UTC time".
+const GIVEN_TIME: usize = 21;
+
+fn is_given(time: &[u8]) -> bool
+    ensures { λ r. ⌜ r ≡ givenTime (now (time .entry)) ⌝ }
+{
+    if time.len() != GIVEN_TIME {
+        return false;
+    }
+    is_time(time)
+}
+
+// "reply buffer under 512, note buffer under 102".
+const LEAST_REPLY: usize = 512;
+
+const LEAST_NOTE: usize = 102;
+
+// "O above 999,999,997".
+const LAST_O: u32 = 999999997;
+
+// Refusals 1 to 4 of a call that can write messages, in the table's order: the lengths of the lent buffers, the given time, the phase, O.
+fn may_write(reply: usize, note: usize, time: &[u8], allowed: bool, o: u32) -> Leave
+    ensures { λ r. ⌜ r ≡ leaveOf (writing (lentTo reply note) (now (time .entry)) allowed o) ⌝ }
+{
+    if reply < LEAST_REPLY {
+        return Leave::Refused(Refusal::ShortBuffer);
+    }
+    if note < LEAST_NOTE {
+        return Leave::Refused(Refusal::ShortBuffer);
+    }
+    if !is_given(time) {
+        return Leave::Refused(Refusal::BadTime);
+    }
+    if !allowed {
+        return Leave::Refused(Refusal::WrongPhase);
+    }
+    if LAST_O < o {
+        return Leave::Refused(Refusal::NumbersUsed);
+    }
+    Leave::Granted
+}
+
+// What is told where nothing is written.
+fn plain(answer: Answer, state: State) -> Told
+    ensures { λ r. ⌜ r ≡ plainly answer state ⌝ }
+{
+    Told {
+        answer,
+        state,
+        reply: 0,
+        note: 0,
+        line: 0,
+    }
+}
+
+// "A call that changes E, O .. hands back one note; others none": S, where they changed.
+fn note_change(was: Session, next: Session, note: &mut [u8]) -> usize
+    requires { ⌜ 102 ≤ length (now note) ⌝ }
+    ensures { λ r. ⌜ (r ≡ length (bytesOfNote (noteOfChange was next))) × (now (note .exit) ≡ splice (now (note .entry)) 0 (bytesOfNote (noteOfChange was next))) ⌝ }
+{
+    if was.e != next.e {
+        return note::put_leaves(note, next.e, next.o);
+    }
+    if was.o != next.o {
+        return note::put_leaves(note, next.e, next.o);
+    }
+    0
+}
+
+// The session after a call, with the reply written and, where E or O changed, the note.
+fn spoken(
+    setup: Setup,
+    st: State,
+    time: &[u8],
+    word: &[u8],
+    answer: Answer,
+    next: Session,
+    r: Reply,
+    reply: &mut [u8],
+    note: &mut [u8],
+) -> Told
+    requires { ⌜ (512 ≤ length (now reply)) × (102 ≤ length (now note)) ⌝ }
+    ensures { λ t. ⌜ ((m : List ℕ) → Written (spoken setup (seen st m) (now (time .entry)) (now (word .entry)) answer next r) t (now (reply .entry)) (now (reply .exit)) (now (note .entry)) (now (note .exit))) ⌝ }
+{
+    let session = st.session;
+    let marks = st.marks;
+    let replied = wire::write_reply(setup, session.o, time, word, r, reply);
+    let noted = note_change(session, next, note);
+    Told {
+        answer,
+        state: State {
+            session: next,
+            marks,
+        },
+        reply: replied,
+        note: noted,
+        line: 0,
+    }
+}
+
+// One of our own calls: refusals 1 to 4, then the message, the session after it, and the note. What the book holds is nothing to it.
+fn own_call(
+    setup: Setup,
+    st: State,
+    what: Own,
+    time: &[u8],
+    reply: &mut [u8],
+    note: &mut [u8],
+) -> Told
+    ensures { λ r. ⌜ ((m : List ℕ) → Written (does setup (seen st m) (lentTo (length (now (reply .entry))) (length (now (note .entry)))) (Own-call what (now (time .entry)))) r (now (reply .entry)) (now (reply .exit)) (now (note .entry)) (now (note .exit))) ⌝ }
+{
+    let was = st.session;
+    let allowed = was.may_call(what);
+    match may_write(reply.len(), note.len(), time, allowed, was.o) {
+        Leave::Refused(why) => plain(Answer::Refused(why), st),
+        Leave::Granted => spoken(
+            setup,
+            st,
+            time,
+            b"",
+            Answer::Done,
+            was.own(what),
+            Reply::One(session::says(what)),
+            reply,
+            note,
+        ),
+    }
+}
+
+// "open (phase 0 or 3; Logon with 98=0 and 108=30; phase 1)".
+pub fn open(setup: Setup, st: State, time: &[u8], reply: &mut [u8], note: &mut [u8]) -> Told
+    ensures { λ r. ⌜ ((m : List ℕ) → Written (does setup (seen st m) (lentTo (length (now (reply .entry))) (length (now (note .entry)))) (Own-call own.Open (now (time .entry)))) r (now (reply .entry)) (now (reply .exit)) (now (note .entry)) (now (note .exit))) ⌝ }
+{
+    own_call(setup, st, Own::Open, time, reply, note)
+}
+
+pub fn heartbeat(setup: Setup, st: State, time: &[u8], reply: &mut [u8], note: &mut [u8]) -> Told
+    ensures { λ r. ⌜ ((m : List ℕ) → Written (does setup (seen st m) (lentTo (length (now (reply .entry))) (length (now (note .entry)))) (Own-call own.Beat (now (time .entry)))) r (now (reply .entry)) (now (reply .exit)) (now (note .entry)) (now (note .exit))) ⌝ }
+{
+    own_call(setup, st, Own::Beat, time, reply, note)
+}
+
+// "test request (112 is O in decimal)".
+pub fn test_request(setup: Setup, st: State, time: &[u8], reply: &mut [u8], note: &mut [u8]) -> Told
+    ensures { λ r. ⌜ ((m : List ℕ) → Written (does setup (seen st m) (lentTo (length (now (reply .entry))) (length (now (note .entry)))) (Own-call own.Ask (now (time .entry)))) r (now (reply .entry)) (now (reply .exit)) (now (note .entry)) (now (note .exit))) ⌝ }
+{
+    own_call(setup, st, Own::Ask, time, reply, note)
+}
+
+// "close (Logout; phase 4)".
+pub fn close(setup: Setup, st: State, time: &[u8], reply: &mut [u8], note: &mut [u8]) -> Told
+    ensures { λ r. ⌜ ((m : List ℕ) → Written (does setup (seen st m) (lentTo (length (now (reply .entry))) (length (now (note .entry)))) (Own-call own.Close (now (time .entry)))) r (now (reply .entry)) (now (reply .exit)) (now (note .entry)) (now (note .exit))) ⌝ }
+{
+    own_call(setup, st, Own::Close, time, reply, note)
+}
+
+// "Line lost (phase 1, 2 or 4) gives phase 0 and writes nothing".
+pub fn line_lost(st: State) -> Told
+    ensures { λ r. ⌜ ((setup : Setup) (b : Lent) (m : List ℕ) → r ≡ toldOf (does setup (seen st m) b Line-lost)) ⌝ }
+{
+    let session = st.session;
+    let marks = st.marks;
+    if session.is_off() {
+        return plain(Answer::Refused(Refusal::WrongPhase), st);
+    }
+    plain(
+        Answer::Done,
+        State {
+            session: session.line_lost(),
+            marks,
+        },
+    )
+}
+
+// "Begin-again sets the offered mark back to the acknowledged one".
+pub fn begin_again(st: State) -> Told
+    ensures { λ r. ⌜ ((setup : Setup) (b : Lent) (m : List ℕ) → r ≡ toldOf (does setup (seen st m) b Begin-again)) ⌝ }
+{
+    let session = st.session;
+    let marks = st.marks;
+    plain(
+        Answer::Done,
+        State {
+            session,
+            marks: Marks {
+                fills: marks.fills,
+                orders: marks.orders,
+                acked: marks.acked,
+                offered: marks.acked,
+            },
+        },
+    )
+}
+
+// "After a restart the phase is 0, no request counts as written, offered equals acknowledged".
+fn awake(counts: Counts) -> State
+    ensures { λ r. ⌜ r ≡ awake counts ⌝ }
+{
+    State {
+        session: Session {
+            phase: Phase::Out,
+            e: counts.e,
+            o: counts.o,
+            asked: 0,
+        },
+        marks: Marks {
+            fills: counts.fills,
+            orders: counts.orders,
+            acked: counts.acked,
+            offered: counts.acked,
+        },
+    }
+}
+
+// A restart from the notes; refusal 8 leaves the state and the lent book.
+pub fn restart_from(st: State, book: &mut [u8; BOOK], notes: &[u8]) -> Told
+    ensures { λ r. ⌜ ((setup : Setup) (b : Lent) → (r ≡ toldOf (does setup (seen st (now (book .entry))) b (Restart (now (notes .entry))))) × (now (book .exit) ≡ bookAfter (now (book .entry)) (does setup (seen st (now (book .entry))) b (Restart (now (notes .entry)))))) ⌝ }
+{
+    match restart::restart(book, notes) {
+        Restarted::Again(counts, whole) => plain(Answer::Restarted(whole), awake(counts)),
+        Restarted::Unlawful(at) => plain(Answer::Refused(Refusal::Unlawful(at)), st),
+    }
 }
