@@ -12,3 +12,4 @@ pub mod Booking
 pub mod Refusing
 pub mod Orders
 pub mod Walked
+pub mod Numbered

@@ -1,0 +1,52 @@
+-- A refused call answers the number of the first row of the paper's table that holds.
+use Prim.Native.Nat.{ℕ}
+use mathlib.Core.Path.{_≡_, refl, ap, _∙_}
+use mathlib.Core.List.{List, [], _∷_}
+use mathlib.Core.Option.{Option, none, some}
+use mathlib.Core.Bool.{Bool, true, false, cond, not}
+use Rattle.octet.specs.Maybe.{orElse, isNone}
+use Rattle.answer.specs.Numbers.{refusalNumber}
+use Rattle.answer.specs.declared.Setup.{Setup}
+use Rattle.answer.specs.declared.Refusal.{Refusal}
+use Rattle.answer.specs.declared.Refusal.the-variants as refusal
+use Rattle.restart.specs.Restart.{Outcome, Again, Unlawful, restart}
+use Rattle.tally.specs.declared.Tally.{Tally}
+use Rattle.receiver.specs.State.{State}
+use Rattle.receiver.specs.Receiver.{What, Own-call, Line-lost, Message, Offer, Begin-again, Acknowledge, New-day, Restart, Lent, refuse, call}
+use Rattle.promise.specs.Demand1.{tooShort, badTime, wrongPhase, numbersUsed, noRoom, notOffered, stillWaiting, unlawfulIn, unlawfulNote, table, firstThere, refusedWith}
+use Rattle.promise.specs.Numbered.{holding, firstRow, numberOf}
+use Rattle.promise.proofs.Refusing.{demand1}
+
+-- a row, and the rows after it
+row : (why : Refusal) (t : Bool) (rest : Option Refusal) (n : Option ℕ) → numberOf rest ≡ n
+    → numberOf (orElse (refuse why t) rest) ≡ cond t (some (refusalNumber why)) n
+row why true rest n e = refl
+row why false rest n e = e
+
+last-row : (r : Outcome) → numberOf (orElse (unlawfulIn r) none) ≡ cond (not (isNone (unlawfulIn r))) (some 8) none
+last-row (Again q whole) = refl
+last-row (Unlawful at) = refl
+
+noted : (w : What) → numberOf (orElse (unlawfulNote w) none) ≡ cond (not (isNone (unlawfulNote w))) (some 8) none
+noted (Own-call own time) = refl
+noted Line-lost = refl
+noted (Message time s) = refl
+noted Offer = refl
+noted Begin-again = refl
+noted (Acknowledge n) = refl
+noted New-day = refl
+noted (Restart notes) = last-row (restart notes)
+
+module _ (setup : Setup) (st : State) (b : Lent) (t : Tally) (w : What) where
+  rows : numberOf (firstThere (table setup st b w)) ≡ firstRow 1 (holding setup st b w)
+  rows =
+      row refusal.ShortBuffer (tooShort b w) _ _
+      (row refusal.BadTime (badTime w) _ _
+      (row refusal.WrongPhase (wrongPhase st w) _ _
+      (row refusal.NumbersUsed (numbersUsed st w) _ _
+      (row refusal.NoRoom (noRoom setup st w) _ _
+      (row refusal.NotOffered (notOffered st w) _ _
+      (row refusal.StillWaiting (stillWaiting st w) _ _ (noted w)))))))
+
+  pub numbered : numberOf (refusedWith (call setup st b t w .did .answer)) ≡ firstRow 1 (holding setup st b w)
+  numbered = ap numberOf (demand1 setup st b t w .first) ∙ rows
