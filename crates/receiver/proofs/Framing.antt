@@ -52,6 +52,7 @@ use Rattle.session.specs.declared.Verdict.the-variants as verdict
 use Rattle.session.proofs.IndexLaws.{judge-law}
 use Rattle.session.proofs.Turns.{facts-read, report-turn}
 use Rattle.answer.specs.declared.Setup.{Setup}
+use Rattle.answer.specs.declared.Fault.{Fault}
 use Rattle.answer.specs.declared.Refusal.{Refusal}
 use Rattle.answer.specs.declared.Refusal.the-variants as refusal
 use Rattle.answer.specs.declared.Outcome.the-variants as outcome
@@ -259,3 +260,42 @@ module _ (setup : Setup) (st : Stored) (m time s : List ℕ) (b : Lent) {may : B
       → Entered (does setup (seen st m) b (Message time s)) t m m′ reply reply′ note note′
   unfolding unrefused
   taken-granted e w = rw (does-granted setup (seen st m) b (Message time s) (e ∙ ap leaveOf (sym message-test))) w
+
+-- ---- what becomes of a report, case by case
+module _ (s : Session) (n : ℕ) (ss : List Slot) (orders : ℕ) (f : Slot) where
+  pub placed-clash : (x : Fault) {j : Judged} → placed.Clash x ≡ place ss f → j ≡ session.rejected s n x → ruling.Settled j ≡ placedTo s n ss orders f (place ss f)
+  unfolding placedTo
+  placed-clash x e g = ap ruling.Settled g ∙ ap (placedTo s n ss orders f) e
+
+  pub placed-already : {j : Judged} → placed.Already ≡ place ss f → j ≡ session.passed outcome.Already s → ruling.Settled j ≡ placedTo s n ss orders f (place ss f)
+  unfolding placedTo
+  placed-already e g = ap ruling.Settled g ∙ ap (placedTo s n ss orders f) e
+
+  pub placed-new : (t : Bool) → placed.New ≡ place ss f → t ≡ hasRoom ss orders f → cond t ruling.Booked ruling.Full ≡ placedTo s n ss orders f (place ss f)
+  unfolding placedTo
+  placed-new t e g = ap (λ (x : Bool). cond x ruling.Booked ruling.Full) g ∙ ap (placedTo s n ss orders f) e
+
+  module _ (r : Reported) where
+    pub reported-faulty : (x : Fault) {j : Judged} → reported.Faulty x ≡ r → j ≡ session.rejected s n x → ruling.Settled j ≡ reportedTo s n ss orders f r
+    unfolding reportedTo
+    reported-faulty x e g = ap ruling.Settled g ∙ ap (reportedTo s n ss orders f) e
+
+    pub reported-aside : {j : Judged} → reported.Aside ≡ r → j ≡ session.passed outcome.Aside s → ruling.Settled j ≡ reportedTo s n ss orders f r
+    unfolding reportedTo
+    reported-aside e g = ap ruling.Settled g ∙ ap (reportedTo s n ss orders f) e
+
+    pub reported-fill : {g : Slot} {x : Ruling} → reported.Fill ≡ r → g ≡ f → x ≡ placedTo s n ss orders g (place ss g) → x ≡ reportedTo s n ss orders f r
+    unfolding reportedTo
+    reported-fill e h p = p ∙ ap (λ (y : Slot). placedTo s n ss orders y (place ss y)) h ∙ ap (reportedTo s n ss orders f) e
+
+module _ (setup : Setup) (st : Stored) (m body : List ℕ) (ix : Index) where
+  pub ruled-settled : (j : Judged) → verdict.Settled j ≡ session.judgedBy (st .session) (factsBy setup (st .session) body ix) → ruling.Settled j ≡ rulingBy setup st m body ix
+  unfolding rulingBy judgedTo
+  ruled-settled j e =
+      ap (judgedTo (st .session) (slotsIn (st .marks .fills) m) (st .marks .orders) (slotFor (textBy body ix)) (reportedOf (reportBy body ix))) e
+
+  pub ruled-report : (n : ℕ) {x : Ruling} → verdict.Report n ≡ session.judgedBy (st .session) (factsBy setup (st .session) body ix)
+      → x ≡ reportedTo (st .session) n (slotsIn (st .marks .fills) m) (st .marks .orders) (slotFor (textBy body ix)) (reportedOf (reportBy body ix)) → x ≡ rulingBy setup st m body ix
+  unfolding rulingBy judgedTo
+  ruled-report n e g =
+      g ∙ ap (judgedTo (st .session) (slotsIn (st .marks .fills) m) (st .marks .orders) (slotFor (textBy body ix)) (reportedOf (reportBy body ix))) e

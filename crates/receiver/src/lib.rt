@@ -40,7 +40,8 @@ ghost use Rattle.report.specs.Indexed.{textBy, reportBy};
 ghost use Rattle.field.specs.Pieces.{piecesOf};
 ghost use Rattle.field.specs.Index.{indexOf};
 ghost use Rattle.receiver.specs.State.{woken, stored, seen, noteOfChange, bytesOfNote, toldOf, lineAfter, bookAfter};
-ghost use Rattle.receiver.specs.Receiver.{goodId, setupWith, settingUp, writing, Lent, does, Own-call, Line-lost, Message, Offer, Begin-again, Acknowledge, New-day, Restart};
+ghost use Rattle.receiver.specs.Receiver.{goodId, setupWith, settingUp, writing, Lent, does, call, tallyAfter, Own-call, Line-lost, Message, Begin-again, Acknowledge, New-day, Restart};
+ghost use Rattle.receiver.specs.Receiver as what;
 ghost use Rattle.session.specs.declared.Own.the-variants as own;
 ghost use Rattle.receiver.specs.Steps.{leaveOf, givenTime, plainly, lentTo, lentLine, isFresh, spoken, awake, placedTo, reportedTo, rulingBy, Written, Kept, Entered, Taken};
 ghost use Rattle.receiver.specs.Calls.{booked, framed, message};
@@ -412,5 +413,95 @@ pub fn restart_from(st: State, book: &mut [u8; BOOK], notes: &[u8]) -> Told
     match restart::restart(book, notes) {
         Restarted::Again(counts, whole) => plain(Answer::Restarted(whole), awake(counts)),
         Restarted::Unlawful(at) => plain(Answer::Refused(Refusal::Unlawful(at)), st),
+    }
+}
+
+// Offers the fill after the last offered one, as its line.
+pub fn offer(st: State, book: &[u8; BOOK], line: &mut [u8]) -> Told
+    ensures { λ r. ⌜ ((setup : Setup) (reply note : ℕ) → (r ≡ toldOf (does setup (seen st (now (book .entry))) (lentLine reply note (length (now (line .entry)))) what.Offer)) × (now (line .exit) ≡ lineAfter (now (line .entry)) (does setup (seen st (now (book .entry))) (lentLine reply note (length (now (line .entry)))) what.Offer))) ⌝ }
+{
+    let session = st.session;
+    let marks = st.marks;
+    match marks.offer(book, line) {
+        Offer::Given(next, len) => Told {
+            answer: Answer::Offered,
+            state: State {
+                session,
+                marks: next,
+            },
+            reply: 0,
+            note: 0,
+            line: len,
+        },
+        Offer::Nothing => plain(Answer::None, st),
+        Offer::Refused(why) => plain(Answer::Refused(why), st),
+    }
+}
+
+// The bytes of a K note.
+const MARKS_NOTE: usize = 5;
+
+// "Acknowledge n takes all fills up to n".
+pub fn acknowledge(st: State, book: &mut [u8; BOOK], n: u32, note: &mut [u8]) -> Told
+    ensures { λ r. ⌜ ((setup : Setup) (reply line : ℕ) → Kept (does setup (seen st (now (book .entry))) (lentLine reply (length (now (note .entry))) line) (Acknowledge n)) r (now (book .entry)) (now (book .exit)) (now (note .entry)) (now (note .exit))) ⌝ }
+{
+    let session = st.session;
+    let marks = st.marks;
+    match marks.acknowledge(book, n, note) {
+        Acknowledged::Taken(next) => Told {
+            answer: Answer::Acked,
+            state: State {
+                session,
+                marks: next,
+            },
+            reply: 0,
+            note: MARKS_NOTE,
+            line: 0,
+        },
+        Acknowledged::Already => plain(Answer::Already, st),
+        Acknowledged::Refused(why) => plain(Answer::Refused(why), st),
+    }
+}
+
+// Nothing of E, O, the fills and the mark would change.
+fn is_fresh(session: Session, marks: Marks) -> bool
+    ensures { λ r. ⌜ r ≡ isFresh (record { session = session; marks = marks }) ⌝ }
+{
+    if session.e != 1 {
+        return false;
+    }
+    if session.o != 1 {
+        return false;
+    }
+    if marks.fills != 0 {
+        return false;
+    }
+    marks.acked == 0
+}
+
+// "New day (phase 0 or 3, nothing waiting) gives the fresh, empty state".
+pub fn new_day(st: State, book: &mut [u8; BOOK], note: &mut [u8]) -> Told
+    ensures { λ r. ⌜ ((setup : Setup) (reply line : ℕ) → Kept (does setup (seen st (now (book .entry))) (lentLine reply (length (now (note .entry))) line) New-day) r (now (book .entry)) (now (book .exit)) (now (note .entry)) (now (note .exit))) ⌝ }
+{
+    let session = st.session;
+    let marks = st.marks;
+    if note.len() < LEAST_NOTE {
+        return plain(Answer::Refused(Refusal::ShortBuffer), st);
+    }
+    if session.is_on() {
+        return plain(Answer::Refused(Refusal::WrongPhase), st);
+    }
+    if marks.acked < marks.fills {
+        return plain(Answer::Refused(Refusal::StillWaiting), st);
+    }
+    if is_fresh(session, marks) {
+        return plain(Answer::Done, fresh());
+    }
+    Told {
+        answer: Answer::Done,
+        state: fresh(),
+        reply: 0,
+        note: note::put_clears(note),
+        line: 0,
     }
 }
