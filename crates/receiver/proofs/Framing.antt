@@ -51,6 +51,7 @@ use Rattle.session.specs.declared.Verdict.{Verdict}
 use Rattle.session.specs.declared.Verdict.the-variants as verdict
 use Rattle.session.proofs.IndexLaws.{judge-law}
 use Rattle.session.proofs.Turns.{facts-read, report-turn}
+use Rattle.tally.specs.declared.Tally.{Tally}
 use Rattle.answer.specs.declared.Setup.{Setup}
 use Rattle.answer.specs.declared.Fault.{Fault}
 use Rattle.answer.specs.declared.Refusal.{Refusal}
@@ -58,8 +59,8 @@ use Rattle.answer.specs.declared.Refusal.the-variants as refusal
 use Rattle.answer.specs.declared.Outcome.the-variants as outcome
 use Rattle.receiver.specs.State.{State, Did, seen, stored, quiet, sessionOf, keeping, toldOf, replyAfter, noteAfter, bookAfter, bookWith}
 use Rattle.receiver.specs.Calls.{settled, booked, bookingNote, bookedOr, placedFill, ruled, judgedBy, framed, foundTo, message}
-use Rattle.receiver.specs.Receiver.{Lent, What, Message, writing, refusalOf, unrefused, does}
-use Rattle.receiver.specs.Steps.{leaveOf, plainly, spoken, placedTo, reportedTo, judgedTo, rulingBy, ruledBy, Written, Entered}
+use Rattle.receiver.specs.Receiver.{Lent, What, Message, writing, refusalOf, unrefused, does, call, tallyAfter}
+use Rattle.receiver.specs.Steps.{leaveOf, plainly, spoken, placedTo, reportedTo, judgedTo, rulingBy, ruledBy, Written, Entered, Taken}
 use Rattle.receiver.specs.declared.State.{State as Stored}
 use Rattle.receiver.specs.declared.Answer.{Answer}
 use Rattle.receiver.specs.declared.Answer.the-variants.{Refused, More, Garbled, Framed}
@@ -299,3 +300,15 @@ module _ (setup : Setup) (st : Stored) (m body : List ℕ) (ix : Index) where
   unfolding rulingBy judgedTo
   ruled-report n e g =
       g ∙ ap (judgedTo (st .session) (slotsIn (st .marks .fills) m) (st .marks .orders) (slotFor (textBy body ix)) (reportedOf (reportBy body ix))) e
+
+-- ---- the tally
+of-told : (d : Did) (tally : Tally) → tallyAfter (toldOf d .answer) tally ≡ tallyAfter (d .answer) tally
+unfolding toldOf
+of-told d tally = refl
+
+pub taken-call : (setup : Setup) (s : State) (b : Lent) (tally : Tally) (w : What) {t : Told} {k : Tally} {m m′ reply reply′ note note′ : List ℕ}
+    → Entered (does setup s b w) t m m′ reply reply′ note note′ → k ≡ tallyAfter (t .answer) tally
+    → Taken (call setup s b tally w) (record { told = t; tally = k }) m m′ reply reply′ note note′
+unfolding call
+taken-call setup s b tally w e f =
+    record { entered = e; tally = f ∙ ap (λ (x : Told). tallyAfter (x .answer) tally) (e .written .told) ∙ of-told (does setup s b w) tally }

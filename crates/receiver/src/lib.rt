@@ -32,7 +32,7 @@ ghost use mathlib.Core.Bool.{true, _&&_};
 ghost use Rattle.value.specs.Value.{isTime};
 ghost use Rattle.answer.specs.Setup.{idWith};
 ghost use Rattle.note.specs.Kept.{empty};
-ghost use Rattle.fill.specs.Slot.{slotWidth};
+ghost use Rattle.fill.specs.Slot.{slotWidth, bookWidth};
 ghost use Rattle.book.specs.Memory.{slotsIn};
 ghost use Rattle.book.specs.Place.{place, hasRoom};
 ghost use Rattle.report.specs.Report.{reportedOf, slotFor};
@@ -504,4 +504,227 @@ pub fn new_day(st: State, book: &mut [u8; BOOK], note: &mut [u8]) -> Told
         note: note::put_clears(note),
         line: 0,
     }
+}
+
+fn wide(n: u32) -> usize
+    ensures { λ r. ⌜ r ≡ n ⌝ }
+{
+    n as usize
+}
+
+// A fill among the day's fills: booked where it is new and there is room.
+fn placed_fill(session: Session, n: u32, marks: Marks, slot: &[u8], book: &[u8; BOOK]) -> Ruling
+    ensures { λ r. ⌜ r ≡ placedTo session n (slotsIn (marks .fills) (now (book .entry))) (marks .orders) (now (slot .entry)) (place (slotsIn (marks .fills) (now (book .entry))) (now (slot .entry))) ⌝ }
+{
+    let fills = wide(marks.fills);
+    match book::place(book, fills, slot) {
+        Placed::Clash(f) => Ruling::Settled(session.rejected(n, f)),
+        Placed::Already => Ruling::Settled(session.passed(Outcome::Already)),
+        Placed::New => {
+            if book::has_room(book, fills, marks.orders, slot) {
+                Ruling::Booked
+            } else {
+                Ruling::Full
+            }
+        }
+    }
+}
+
+// A faultless report in its turn: the rules, set aside, then the book.
+fn reported_to(
+    session: Session,
+    n: u32,
+    marks: Marks,
+    body: &[u8],
+    ix: Index,
+    book: &[u8; BOOK],
+) -> Ruling
+    ensures { λ r. ⌜ r ≡ reportedTo session n (slotsIn (marks .fills) (now (book .entry))) (marks .orders) (slotFor (textBy (now (body .entry)) ix)) (reportedOf (reportBy (now (body .entry)) ix)) ⌝ }
+{
+    match report::reported_in(body, ix) {
+        Reported::Faulty(f) => Ruling::Settled(session.rejected(n, f)),
+        Reported::Aside => Ruling::Settled(session.passed(Outcome::Aside)),
+        Reported::Fill => placed_fill(session, n, marks, &report::slot_in(body, ix), book),
+    }
+}
+
+// What becomes of a framed message, before anything is written: the session judges, and of a report the book is asked.
+fn ruled(setup: Setup, st: State, body: &[u8], ix: Index, book: &[u8; BOOK]) -> Ruling
+    ensures { λ r. ⌜ r ≡ rulingBy setup st (now (book .entry)) (now (body .entry)) ix ⌝ }
+{
+    let session = st.session;
+    let marks = st.marks;
+    match session.judge(setup, body, ix) {
+        Verdict::Settled(j) => Ruling::Settled(j),
+        Verdict::Report(n) => reported_to(session, n, marks, body, ix, book),
+    }
+}
+
+// The bytes of the lent book: room for all its slots.
+fn book_len(book: &[u8; BOOK]) -> usize
+    ensures { λ r. ⌜ (r ≡ length (now (book .entry))) × (length (now (book .entry)) ≡ bookWidth) ⌝ }
+{
+    let slots = &book[..];
+    slots.len()
+}
+
+// "Then it is booked and numbered from 1"; a booking hands back F alone.
+fn booked(st: State, len: usize, slot: &[u8], book: &mut [u8; BOOK], note: &mut [u8]) -> Told
+    requires { ⌜ (hasRoom (slotsIn (st .marks .fills) (now book)) (st .marks .orders) (now slot) ≡ true) × (st .session .e < 999999999) × (length (now slot) ≡ slotWidth) × (102 ≤ length (now note)) ⌝ }
+    ensures { λ r. ⌜ ((reply : List ℕ) → Entered (booked (seen st (now (book .entry))) len (now (slot .entry))) r (now (book .entry)) (now (book .exit)) reply reply (now (note .entry)) (now (note .exit))) ⌝ }
+{
+    let session = st.session;
+    let marks = st.marks;
+    let phase = session.phase;
+    book_len(book);
+    let fills = wide(marks.fills);
+    let booking = book::booking_of(book, fills, marks.orders, slot);
+    let noted = note::put_books(note, session.e + 1, session.o, slot);
+    book::append(book, fills, slot);
+    Told {
+        answer: Answer::Framed(len, Outcome::Booked(marks.fills + 1, booking.stepped)),
+        state: State {
+            session: Session {
+                phase,
+                e: session.e + 1,
+                o: session.o,
+                asked: session.asked,
+            },
+            marks: Marks {
+                fills: marks.fills + 1,
+                orders: booking.orders,
+                acked: marks.acked,
+                offered: marks.offered,
+            },
+        },
+        reply: 0,
+        note: noted,
+        line: 0,
+    }
+}
+
+// A framed message: what becomes of it, and then what is written.
+fn framed(
+    setup: Setup,
+    st: State,
+    time: &[u8],
+    len: usize,
+    body: &[u8],
+    book: &mut [u8; BOOK],
+    reply: &mut [u8],
+    note: &mut [u8],
+) -> Told
+    requires { ⌜ (512 ≤ length (now reply)) × (102 ≤ length (now note)) ⌝ }
+    ensures { λ r. ⌜ Entered (framed setup (seen st (now (book .entry))) (now (time .entry)) len (piecesOf (now (body .entry)))) r (now (book .entry)) (now (book .exit)) (now (reply .entry)) (now (reply .exit)) (now (note .entry)) (now (note .exit)) ⌝ }
+{
+    let ix = field::indexed(body);
+    match ruled(setup, st, body, ix, book) {
+        Ruling::Settled(j) => {
+            let says = j.reply;
+            let next = j.next;
+            let outcome = j.outcome;
+            let word = field::value_in(body, ix, session::word_tag(says));
+            spoken(
+                setup,
+                st,
+                time,
+                word,
+                Answer::Framed(len, outcome),
+                next,
+                says,
+                reply,
+                note,
+            )
+        }
+        Ruling::Booked => booked(st, len, &report::slot_in(body, ix), book, note),
+        Ruling::Full => plain(Answer::Refused(Refusal::NoRoom), st),
+    }
+}
+
+// "Neither changes the state or is answered": More and Garbled.
+fn heard(
+    setup: Setup,
+    st: State,
+    time: &[u8],
+    bytes: &[u8],
+    book: &mut [u8; BOOK],
+    reply: &mut [u8],
+    note: &mut [u8],
+) -> Told
+    requires { ⌜ (512 ≤ length (now reply)) × (102 ≤ length (now note)) ⌝ }
+    ensures { λ r. ⌜ Entered (message setup (seen st (now (book .entry))) (now (time .entry)) (now (bytes .entry))) r (now (book .entry)) (now (book .exit)) (now (reply .entry)) (now (reply .exit)) (now (note .entry)) (now (note .exit)) ⌝ }
+{
+    match frame::find(bytes) {
+        Found::More => plain(Answer::More, st),
+        Found::Garbled(skip) => plain(Answer::Garbled(skip), st),
+        Found::Framed(len) => {
+            framed(
+                setup,
+                st,
+                time,
+                len,
+                frame::body(bytes, len),
+                book,
+                reply,
+                note,
+            )
+        }
+    }
+}
+
+// Refusals 1 to 4, before a byte of the message is looked at.
+fn taken(
+    setup: Setup,
+    st: State,
+    time: &[u8],
+    bytes: &[u8],
+    book: &mut [u8; BOOK],
+    reply: &mut [u8],
+    note: &mut [u8],
+) -> Told
+    ensures { λ r. ⌜ Entered (does setup (seen st (now (book .entry))) (lentTo (length (now (reply .entry))) (length (now (note .entry)))) (Message (now (time .entry)) (now (bytes .entry)))) r (now (book .entry)) (now (book .exit)) (now (reply .entry)) (now (reply .exit)) (now (note .entry)) (now (note .exit)) ⌝ }
+{
+    let was = st.session;
+    let allowed = was.is_on();
+    match may_write(reply.len(), note.len(), time, allowed, was.o) {
+        Leave::Refused(why) => plain(Answer::Refused(why), st),
+        Leave::Granted => heard(setup, st, time, bytes, book, reply, note),
+    }
+}
+
+// The tally "is brought up to date by each message call".
+fn tally_after(answer: Answer, tally: Tally) -> Tally
+    ensures { λ r. ⌜ r ≡ tallyAfter answer tally ⌝ }
+{
+    match answer {
+        Answer::Framed(_, outcome) => tally.after(outcome),
+        Answer::Garbled(_) => tally.one_garbled(),
+        Answer::Done => tally,
+        Answer::Refused(_) => tally,
+        Answer::More => tally,
+        Answer::Offered => tally,
+        Answer::None => tally,
+        Answer::Acked => tally,
+        Answer::Already => tally,
+        Answer::Restarted(_) => tally,
+    }
+}
+
+// The message call.
+pub fn message(
+    setup: Setup,
+    st: State,
+    tally: Tally,
+    time: &[u8],
+    bytes: &[u8],
+    book: &mut [u8; BOOK],
+    reply: &mut [u8],
+    note: &mut [u8],
+) -> Received
+    ensures { λ r. ⌜ Taken (call setup (seen st (now (book .entry))) (lentTo (length (now (reply .entry))) (length (now (note .entry)))) tally (Message (now (time .entry)) (now (bytes .entry)))) r (now (book .entry)) (now (book .exit)) (now (reply .entry)) (now (reply .exit)) (now (note .entry)) (now (note .exit)) ⌝ }
+{
+    let told = taken(setup, st, time, bytes, book, reply, note);
+    let answer = told.answer;
+    let tally = tally_after(answer, tally);
+    Received { told, tally }
 }
