@@ -10,7 +10,6 @@ use fill::BOOK;
 use fill::SLOT;
 use frame::Found;
 use queue::Acknowledged;
-use queue::Day;
 use queue::Marks;
 use queue::Offer;
 use report::Reported;
