@@ -13,3 +13,4 @@ pub mod Refusing
 pub mod Orders
 pub mod Walked
 pub mod Numbered
+pub mod WrittenRead
