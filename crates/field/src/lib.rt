@@ -7,9 +7,9 @@ use text::read_digits;
 ghost use mathlib.Core.Path.{_≡_};
 ghost use Prim.Native.Nat.{_+_, _≤_, min};
 ghost use lib.ListN.{length};
-ghost use Rattle.octet.specs.Bytes.{part};
-ghost use Rattle.field.specs.Pieces.{piecesOf, isTwice, textAt, scanOf, andThen};
-ghost use Rattle.field.specs.Stands.{pieceAt, stepOf, placeOf, faultOf, hits};
+ghost use Rattle.text.specs.Decimal.{digitRun};
+ghost use Rattle.field.specs.Pieces.{piecesOf, tagged, isTwice, textAt, scanOf, andThen};
+ghost use Rattle.field.specs.Stands.{stepOf, placeOf, faultOf, hits};
 ghost use Rattle.field.specs.Index.{slotOf, countOf, indexOf, valueIn, countIn, slots, notedAt, noted};
 
 // The first fault of the pieces of a body: none, a piece that is no field, or a field without a value, by its tag.
@@ -55,33 +55,22 @@ const MARK: u8 = 1;
 // A tag has so many digits at most.
 const TAG_DIGITS: usize = 5;
 
-// The piece of n bytes at place `at`. One digit more than a tag may have is read, so that a longer run is seen.
-fn piece_at(body: &[u8], at: usize, n: usize) -> Piece
-    requires { ⌜ at + n ≤ length (now body) ⌝ }
-    ensures { λ r. ⌜ r ≡ pieceAt at (part at n (now (body .entry))) ⌝ }
+// Whether a piece begins with a tag and `=`, told from the rest of the body and how many digits stand at its front. One digit
+// more than a tag may have is counted, so that a longer run is seen.
+fn is_tagged(rest: &[u8], run: usize) -> bool
+    requires { ⌜ run ≡ min 6 (digitRun (now rest)) ⌝ }
+    ensures { λ r. ⌜ r ≡ tagged (now (rest .entry)) ⌝ }
 {
-    let end = at + n;
-    let piece = &body[at..end];
-    let digits = read_digits(piece, TAG_DIGITS + 1);
-    let run = digits.len;
     if run == 0 {
-        return Piece::Stray;
+        return false;
     }
     if TAG_DIGITS < run {
-        return Piece::Stray;
+        return false;
     }
-    if piece[0] == b'0' {
-        return Piece::Stray;
+    if rest[0] == b'0' {
+        return false;
     }
-    if byte_at(piece, run) != b'=' {
-        return Piece::Stray;
-    }
-    let skip = run + 1;
-    Piece::Field {
-        tag: digits.value,
-        start: at + skip,
-        len: n - skip,
-    }
+    byte_at(rest, run) == b'='
 }
 
 // The place after the `|` at `end`, or the end of the body.
@@ -91,15 +80,31 @@ fn after(end: usize, size: usize) -> usize
     if end < size { end + 1 } else { size }
 }
 
-// The piece that begins at `at`, and where the next one does.
+// The piece that begins at `at`, and where the next one does. Neither a digit nor `=` is `|`: the tag is read first and the
+// `|` looked for behind it, so that no byte is looked at twice.
 fn step_from(body: &[u8], at: usize) -> Step
     requires { ⌜ at ≤ length (now body) ⌝ }
     ensures { λ r. ⌜ r ≡ stepOf at (now (body .entry)) ⌝ }
 {
     let rest = &body[at..];
-    let n = until(rest, MARK);
+    let digits = read_digits(rest, TAG_DIGITS + 1);
+    let run = digits.len;
+    if is_tagged(rest, run) {
+        let skip = run + 1;
+        let start = at + skip;
+        let len = until(&rest[skip..], MARK);
+        return Step {
+            piece: Piece::Field {
+                tag: digits.value,
+                start,
+                len,
+            },
+            next: after(start + len, body.len()),
+        };
+    }
+    let n = run + until(&rest[run..], MARK);
     Step {
-        piece: piece_at(body, at, n),
+        piece: Piece::Stray,
         next: after(at + n, body.len()),
     }
 }
