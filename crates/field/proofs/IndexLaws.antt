@@ -1,7 +1,7 @@
 -- One pass fills the index, and the index says of every tag what the pieces of the body say.
 --     filled     the lists that the pass fills are those of the definition
 --     value-law, count-law, scan-law     lookups by the index of a body are the definitions on its pieces, for every tag
---     twice-law, missing-law, first-law, has-law, has-text     what a count and a value say of a tag
+--     missing-law, first-law, has-law, has-text     what a count and a value say of a tag
 --     values-none, values-one, values-more     what a count says of the values themselves
 use mathlib.Core.Path.{_≡_, refl, ap, sym, _∙_}
 use mathlib.Core.Bool.{Bool, true, false, cond, not, _&&_}
@@ -17,7 +17,7 @@ use borrow.Author.Tests.{eqb-true, eqb-false, ltb-true, lt-ltb, eq-eqb, ne-eqb, 
 use Rattle.octet.specs.Bytes.{part, same}
 use Rattle.octet.specs.Maybe.{isNone, unless, first}
 use Rattle.octet.proofs.Cases.{and-both, ap-cond}
-use Rattle.field.specs.Pieces.{Pieces, piecesOf, valuesOf, firstOf, isTwice, isThat, has, textAt, scanOf}
+use Rattle.field.specs.Pieces.{Pieces, piecesOf, valuesOf, firstOf, isThat, has, textAt, scanOf}
 use Rattle.field.specs.Stands.{located, placeFrom, placeOf}
 use Rattle.field.specs.Index.{listed, slotCount, position, slotOf, startIn, lenIn, countOf, indexOf, valueIn, countIn, Slots, slots, notedAt, noted}
 use Rattle.field.specs.declared.Place.{Place}
@@ -271,13 +271,7 @@ part-place : (body : List ℕ) (p : Place) → part (startIn p) (lenIn p) body �
 part-place body Missing = refl
 part-place body (At s n) = refl
 
--- what a count that stops at 2 says
-pub least-two : (n : ℕ) → ltb 1 (min 2 n) ≡ ltb 1 n
-least-two zero = refl
-least-two (suc zero) = refl
-least-two (suc (suc n)) = rw (lt-ltb 1 (min 2 (suc (suc n))) (omega arith), lt-ltb 1 (suc (suc n)) (omega arith))
-
--- what it says of the values themselves
+-- what a count that stops at 2 says of the values themselves
 pub values-none : (vs : Pieces) → min 2 (length vs) ≡ 0 → vs ≡ []
 values-none [] e = refl
 values-none (v ∷ vs) e = absurd (omega arith)
@@ -324,9 +318,6 @@ module _ (body : List ℕ) (tag : ℕ) where
   pub count-law : countIn body (indexOf body .count) tag ≡ min 2 (length (valuesOf tag (piecesOf body)))
   unfolding countOf
   count-law = counted
-
-  pub twice-law : ltb 1 (countIn body (indexOf body .count) tag) ≡ isTwice tag (piecesOf body)
-  twice-law = ap (ltb 1) count-law ∙ least-two (length (valuesOf tag (piecesOf body)))
 
   pub missing-law : eqb (countIn body (indexOf body .count) tag) 0 ≡ isNone (firstOf tag (piecesOf body))
   missing-law = ap (λ (n : ℕ). eqb n 0) count-law ∙ none-there (valuesOf tag (piecesOf body))

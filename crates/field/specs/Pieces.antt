@@ -54,9 +54,6 @@ valuesOf tag (p ∷ ps) = let rest = valuesOf tag ps in cond (carries tag p) (va
 abbrev pub firstOf : ℕ → Pieces → Option (List ℕ)
 firstOf tag ps = first (valuesOf tag ps)
 
-abbrev pub isTwice : ℕ → Pieces → Bool
-isTwice tag ps = ltb 1 (length (valuesOf tag ps))
-
 abbrev pub isThat : List ℕ → Option (List ℕ) → Bool
 isThat v none = false
 isThat v (some w) = same v w

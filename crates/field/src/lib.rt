@@ -8,7 +8,7 @@ ghost use mathlib.Core.Path.{_≡_};
 ghost use Prim.Native.Nat.{_+_, _≤_, min};
 ghost use lib.ListN.{length};
 ghost use Rattle.text.specs.Decimal.{digitRun};
-ghost use Rattle.field.specs.Pieces.{piecesOf, tagged, isTwice, textAt, scanOf, andThen};
+ghost use Rattle.field.specs.Pieces.{piecesOf, tagged, textAt, andThen};
 ghost use Rattle.field.specs.Stands.{stepOf, placeOf, faultOf, hits};
 ghost use Rattle.field.specs.Index.{slotOf, countOf, indexOf, valueIn, countIn, slots, notedAt, noted};
 
@@ -304,29 +304,6 @@ pub fn count(body: &[u8], tag: u32) -> u8
     n
 }
 
-// Whether a tag stands more than once.
-pub fn twice(body: &[u8], tag: u32) -> bool
-    ensures { λ r. ⌜ r ≡ isTwice tag (piecesOf (now (body .entry))) ⌝ }
-{
-    1 < count(body, tag)
-}
-
-// The first fault of the pieces: the scan of step 5 by itself.
-pub fn scan_fields(body: &[u8]) -> Scan
-    ensures { λ r. ⌜ r ≡ scanOf (piecesOf (now (body .entry))) ⌝ }
-{
-    let mut scan = Scan::Sound;
-    let mut i = 0;
-    while i < body.len() {
-        let here = step_from(body, i);
-        let piece = here.piece;
-        let fault = fault_of(piece);
-        scan = and_then(scan, fault);
-        i = here.next;
-    }
-    scan
-}
-
 // The value of the first field of a tag, nothing where there is none: by the body itself.
 fn value_of(body: &[u8], tag: u32) -> &[u8]
     ensures { λ r. ⌜ now r ≡ textAt tag (piecesOf (now (body .entry))) ⌝ }
@@ -364,15 +341,9 @@ pub fn count_at(body: &[u8], counts: &[u8; TAGS], tag: u32) -> u8
     count(body, tag)
 }
 
-// Both by the whole index.
+// A value by the whole index.
 pub fn value_in(body: &[u8], ix: Index, tag: u32) -> &[u8]
     ensures { λ r. ⌜ now r ≡ valueIn (now (body .entry)) (ix .start) (ix .len) tag ⌝ }
 {
     value_at(body, &ix.start, &ix.len, tag)
-}
-
-pub fn count_in(body: &[u8], ix: Index, tag: u32) -> u8
-    ensures { λ r. ⌜ r ≡ countIn (now (body .entry)) (ix .count) tag ⌝ }
-{
-    count_at(body, &ix.count, tag)
 }
