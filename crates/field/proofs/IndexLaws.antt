@@ -19,7 +19,7 @@ use Rattle.octet.specs.Maybe.{isNone, unless, first}
 use Rattle.octet.proofs.Cases.{and-both, ap-cond}
 use Rattle.field.specs.Pieces.{Pieces, piecesOf, valuesOf, firstOf, isThat, has, textAt, scanOf}
 use Rattle.field.specs.Stands.{located, placeFrom, placeOf}
-use Rattle.field.specs.Index.{listed, slotCount, position, slotOf, startIn, lenIn, countOf, indexOf, valueIn, countIn, Slots, slots, notedAt, noted}
+use Rattle.field.specs.Index.{listed, columnCount, position, columnOf, startIn, lenIn, countOf, indexOf, valueIn, countIn, Columns, columns, notedAt, noted}
 use Rattle.field.specs.declared.Place.{Place}
 use Rattle.field.specs.declared.Place.the-variants.{At, Missing}
 use Rattle.field.specs.declared.Piece.{Piece}
@@ -28,7 +28,7 @@ use Rattle.field.specs.declared.Index.{Index}
 use Rattle.field.specs.declared.Scan.{Scan}
 use Rattle.field.proofs.Cuts.{hitsIn, count-at, partBy, value-at}
 
--- ---- each listed tag has a slot of its own
+-- ---- each listed tag has a column of its own
 
 at-step : (t u p : ℕ) (ts : List ℕ) (b : Bool) → eqb u t ≡ b → (p < length ts → getD ts p 0 ≡ u)
     → cond b 0 (suc p) < suc (length ts) → getD (t ∷ ts) (cond b 0 (suc p)) 0 ≡ u
@@ -63,7 +63,7 @@ position-at (t ∷ ts) (suc k) e h =
     let d = and-both (absent t ts) (distinct ts) e in
     rw (absent-at t ts k (d .0) (omega arith)) (ap suc (position-at ts k (d .1) (omega arith)))
 
-size : length listed ≡ slotCount
+size : length listed ≡ columnCount
 unfolding listed
 size = refl
 
@@ -71,75 +71,75 @@ no-repeats : distinct listed ≡ true
 unfolding listed
 no-repeats = refl
 
-slot-tag : (t : ℕ) → slotOf t < slotCount → getD listed (slotOf t) 0 ≡ t
-unfolding slotOf
-slot-tag t h = at-position listed t (omega (arith, size))
+column-tag : (t : ℕ) → columnOf t < columnCount → getD listed (columnOf t) 0 ≡ t
+unfolding columnOf
+column-tag t h = at-position listed t (omega (arith, size))
 
-slot-own : (t u : ℕ) → slotOf t < slotCount → slotOf t ≡ slotOf u → u ≡ t
-slot-own t u h e = sym (slot-tag u (omega arith)) ∙ ap (λ (k : ℕ). getD listed k 0) (sym e) ∙ slot-tag t h
+column-own : (t u : ℕ) → columnOf t < columnCount → columnOf t ≡ columnOf u → u ≡ t
+column-own t u h e = sym (column-tag u (omega arith)) ∙ ap (λ (k : ℕ). getD listed k 0) (sym e) ∙ column-tag t h
 
-slot-at : (k : ℕ) → k < slotCount → slotOf (getD listed k 0) ≡ k
-unfolding slotOf
-slot-at k h = position-at listed k no-repeats (omega (arith, size))
+column-at : (k : ℕ) → k < columnCount → columnOf (getD listed k 0) ≡ k
+unfolding columnOf
+column-at k h = position-at listed k no-repeats (omega (arith, size))
 
--- ---- a list by slots
+-- ---- a list by columns
 
 map-at : (f : ℕ → ℕ) (l : List ℕ) (k : ℕ) → k < length l → getD (map f l) k 0 ≡ f (getD l k 0)
 map-at f [] k h = absurd (omega arith)
 map-at f (x ∷ l) zero h = refl
 map-at f (x ∷ l) (suc k) h = map-at f l k (omega arith)
 
-by-slots : (f : ℕ → ℕ) (xs : List ℕ) → length xs ≡ slotCount → ((t : ℕ) → slotOf t < slotCount → getD xs (slotOf t) 0 ≡ f t) → xs ≡ map f listed
-by-slots f xs e h =
+by-columns : (f : ℕ → ℕ) (xs : List ℕ) → length xs ≡ columnCount → ((t : ℕ) → columnOf t < columnCount → getD xs (columnOf t) 0 ≡ f t) → xs ≡ map f listed
+by-columns f xs e h =
     ext-getD 0 xs (map f listed) (e ∙ sym size ∙ sym (length-map listed f))
-    (λ k l. (let q = slot-at k (omega arith) in
+    (λ k l. (let q = column-at k (omega arith) in
     ap (λ (j : ℕ). getD xs j 0) (sym q) ∙ h (getD listed k 0) (omega arith) ∙ sym (map-at f listed k (omega (arith, size)))))
 
-at-slot : (f : ℕ → ℕ) (t : ℕ) → slotOf t < slotCount → getD (map f listed) (slotOf t) 0 ≡ f t
-at-slot f t h = map-at f listed (slotOf t) (omega (arith, size)) ∙ ap f (slot-tag t h)
+at-column : (f : ℕ → ℕ) (t : ℕ) → columnOf t < columnCount → getD (map f listed) (columnOf t) 0 ≡ f t
+at-column f t h = map-at f listed (columnOf t) (omega (arith, size)) ∙ ap f (column-tag t h)
 
--- ---- one slot: its first field is kept, a second and a third are counted as 2
+-- ---- one column: its first field is kept, a second and a third are counted as 2
 
-record Slot : Type 0 where
+record Column : Type 0 where
   pub start : ℕ
   pub len : ℕ
   pub count : ℕ
 
-abbrev slot : ℕ → ℕ → ℕ → Slot
-slot s n c = record { start = s; len = n; count = c }
+abbrev column : ℕ → ℕ → ℕ → Column
+column s n c = record { start = s; len = n; count = c }
 
-abbrev slotIn : Slots → ℕ → Slot
-slotIn x k = slot (getD (x .start) k 0) (getD (x .len) k 0) (getD (x .count) k 0)
+abbrev columnIn : Columns → ℕ → Column
+columnIn x k = column (getD (x .start) k 0) (getD (x .len) k 0) (getD (x .count) k 0)
 
-abbrev more : Slot → ℕ → ℕ → Slot
-more z s n = cond (eqb (z .count) 0) (slot s n 1) (slot (z .start) (z .len) 2)
+abbrev more : Column → ℕ → ℕ → Column
+more z s n = cond (eqb (z .count) 0) (column s n 1) (column (z .start) (z .len) 2)
 
-abbrev marked : ℕ → Slot → Piece → Slot
+abbrev marked : ℕ → Column → Piece → Column
 marked t z Stray = z
 marked t z (Field u s n) = cond (eqb u t) (more z s n) z
 
-abbrev markedBy : ℕ → Slot → List Piece → Slot
+abbrev markedBy : ℕ → Column → List Piece → Column
 markedBy t z [] = z
 markedBy t z (g ∷ gs) = markedBy t (marked t z g) gs
 
 module _ (t : ℕ) where
   -- once there is a first field it stays
-  marked-more : (s n c : ℕ) (gs : List Piece) → markedBy t (slot s n (suc c)) gs ≡ slot s n (cond (eqb (hitsIn t gs) 0) (suc c) 2)
+  marked-more : (s n c : ℕ) (gs : List Piece) → markedBy t (column s n (suc c)) gs ≡ column s n (cond (eqb (hitsIn t gs) 0) (suc c) 2)
   marked-more s n c [] = refl
   marked-more s n c (Stray ∷ gs) = rw (zero-add (hitsIn t gs)) (marked-more s n c gs)
   marked-more s n c (Field u a b ∷ gs) = rw (ne-eqb (suc c) 0 (λ z. omega arith)) (by (eqb u t) (marked-more s n 1 gs) (marked-more s n c gs))
     where
-      by : (q : Bool) → markedBy t (slot s n 2) gs ≡ slot s n (cond (eqb (hitsIn t gs) 0) 2 2)
-          → markedBy t (slot s n (suc c)) gs ≡ slot s n (cond (eqb (hitsIn t gs) 0) (suc c) 2)
-          → markedBy t (cond q (slot s n 2) (slot s n (suc c))) gs ≡ slot s n (cond (eqb (cond q 1 0 + hitsIn t gs) 0) (suc c) 2)
+      by : (q : Bool) → markedBy t (column s n 2) gs ≡ column s n (cond (eqb (hitsIn t gs) 0) 2 2)
+          → markedBy t (column s n (suc c)) gs ≡ column s n (cond (eqb (hitsIn t gs) 0) (suc c) 2)
+          → markedBy t (cond q (column s n 2) (column s n (suc c))) gs ≡ column s n (cond (eqb (cond q 1 0 + hitsIn t gs) 0) (suc c) 2)
       by true i j = i ∙ either (eqb (hitsIn t gs) 0) ∙ rw (ne-eqb (1 + hitsIn t gs) 0 (λ z. omega arith))
         where
-          either : (v : Bool) → slot s n (cond v 2 2) ≡ slot s n 2
+          either : (v : Bool) → column s n (cond v 2 2) ≡ column s n 2
           either true = refl
           either false = refl
       by false i j = rw (zero-add (hitsIn t gs)) j
 
-  marked-all : (gs : List Piece) → markedBy t (slot 0 0 0) gs ≡ slot (startIn (placeFrom t gs)) (lenIn (placeFrom t gs)) (min 2 (hitsIn t gs))
+  marked-all : (gs : List Piece) → markedBy t (column 0 0 0) gs ≡ column (startIn (placeFrom t gs)) (lenIn (placeFrom t gs)) (min 2 (hitsIn t gs))
   unfolding placeFrom
   marked-all [] = refl
   marked-all (Stray ∷ gs) = rw (zero-add (hitsIn t gs)) (marked-all gs)
@@ -149,120 +149,120 @@ module _ (t : ℕ) where
       count zero = refl
       count (suc m) = rw (ne-eqb (suc m) 0 (λ z. omega arith)) (omega arith)
 
-      by : (q : Bool) → markedBy t (slot 0 0 0) gs ≡ slot (startIn (placeFrom t gs)) (lenIn (placeFrom t gs)) (min 2 (hitsIn t gs))
-          → markedBy t (cond q (slot s n 1) (slot 0 0 0)) gs
-          ≡ slot (startIn (cond q (At s n) (placeFrom t gs))) (lenIn (cond q (At s n) (placeFrom t gs))) (min 2 (cond q 1 0 + hitsIn t gs))
-      by true i = marked-more s n 0 gs ∙ ap (slot s n) (count (hitsIn t gs))
+      by : (q : Bool) → markedBy t (column 0 0 0) gs ≡ column (startIn (placeFrom t gs)) (lenIn (placeFrom t gs)) (min 2 (hitsIn t gs))
+          → markedBy t (cond q (column s n 1) (column 0 0 0)) gs
+          ≡ column (startIn (cond q (At s n) (placeFrom t gs))) (lenIn (cond q (At s n) (placeFrom t gs))) (min 2 (cond q 1 0 + hitsIn t gs))
+      by true i = marked-more s n 0 gs ∙ ap (column s n) (count (hitsIn t gs))
       by false i = rw (zero-add (hitsIn t gs)) i
 
--- ---- the three lists keep their lengths, and a field goes to its tag's slot and to no other
+-- ---- the three lists keep their lengths, and a field goes to its tag's column and to no other
 
-record Sized (x : Slots) : Type 0 where
-  pub starts : length (x .start) ≡ slotCount
-  pub lens : length (x .len) ≡ slotCount
-  pub counts : length (x .count) ≡ slotCount
+record Sized (x : Columns) : Type 0 where
+  pub starts : length (x .start) ≡ columnCount
+  pub lens : length (x .len) ≡ columnCount
+  pub counts : length (x .count) ≡ columnCount
 
-sized : (x : Slots) (g : Piece) → Sized x → Sized (noted x g)
+sized : (x : Columns) (g : Piece) → Sized x → Sized (noted x g)
 unfolding noted notedAt
 sized x Stray z = z
-sized x (Field u s n) z = by (ltb (slotOf u) slotCount) (eqb (getD (x .count) (slotOf u) 0) 0)
+sized x (Field u s n) z = by (ltb (columnOf u) columnCount) (eqb (getD (x .count) (columnOf u) 0) 0)
   where
     by : (p q : Bool)
-        → Sized (cond p (cond q (slots (set (x .start) (slotOf u) s) (set (x .len) (slotOf u) n) (set (x .count) (slotOf u) 1)) (slots (x .start) (x .len) (set (x .count) (slotOf u) 2))) x)
+        → Sized (cond p (cond q (columns (set (x .start) (columnOf u) s) (set (x .len) (columnOf u) n) (set (x .count) (columnOf u) 1)) (columns (x .start) (x .len) (set (x .count) (columnOf u) 2))) x)
     by true true =
-        record { starts = length-set (x .start) (slotOf u) s ∙ z .starts; lens = length-set (x .len) (slotOf u) n ∙ z .lens; counts = length-set (x .count) (slotOf u) 1 ∙ z .counts }
-    by true false = record { starts = z .starts; lens = z .lens; counts = length-set (x .count) (slotOf u) 2 ∙ z .counts }
+        record { starts = length-set (x .start) (columnOf u) s ∙ z .starts; lens = length-set (x .len) (columnOf u) n ∙ z .lens; counts = length-set (x .count) (columnOf u) 1 ∙ z .counts }
+    by true false = record { starts = z .starts; lens = z .lens; counts = length-set (x .count) (columnOf u) 2 ∙ z .counts }
     by false q = z
 
-own : (x : Slots) (k s n : ℕ) → k < slotCount → Sized x → slotIn (notedAt x k s n) k ≡ more (slotIn x k) s n
+own : (x : Columns) (k s n : ℕ) → k < columnCount → Sized x → columnIn (notedAt x k s n) k ≡ more (columnIn x k) s n
 unfolding notedAt
-own x k s n h z = rw (lt-ltb k slotCount h) (by (eqb (getD (x .count) k 0) 0))
+own x k s n h z = rw (lt-ltb k columnCount h) (by (eqb (getD (x .count) k 0) 0))
   where
     by : (q : Bool)
-        → slotIn (cond q (slots (set (x .start) k s) (set (x .len) k n) (set (x .count) k 1)) (slots (x .start) (x .len) (set (x .count) k 2))) k
-        ≡ cond q (slot s n 1) (slot (getD (x .start) k 0) (getD (x .len) k 0) 2)
+        → columnIn (cond q (columns (set (x .start) k s) (set (x .len) k n) (set (x .count) k 1)) (columns (x .start) (x .len) (set (x .count) k 2))) k
+        ≡ cond q (column s n 1) (column (getD (x .start) k 0) (getD (x .len) k 0) 2)
     by true =
         rw (getD-set-same (x .start) k s 0 (omega (arith, z .starts)), getD-set-same (x .len) k n 0 (omega (arith, z .lens)), getD-set-same (x .count) k 1 0 (omega (arith, z .counts)))
     by false = rw (getD-set-same (x .count) k 2 0 (omega (arith, z .counts)))
 
-other : (x : Slots) (j k s n : ℕ) → (k ≡ j → ⊥) → slotIn (notedAt x j s n) k ≡ slotIn x k
+other : (x : Columns) (j k s n : ℕ) → (k ≡ j → ⊥) → columnIn (notedAt x j s n) k ≡ columnIn x k
 unfolding notedAt
-other x j k s n d = by (ltb j slotCount) (eqb (getD (x .count) j 0) 0)
+other x j k s n d = by (ltb j columnCount) (eqb (getD (x .count) j 0) 0)
   where
     by : (p q : Bool)
-        → slotIn (cond p (cond q (slots (set (x .start) j s) (set (x .len) j n) (set (x .count) j 1)) (slots (x .start) (x .len) (set (x .count) j 2))) x) k ≡ slotIn x k
+        → columnIn (cond p (cond q (columns (set (x .start) j s) (set (x .len) j n) (set (x .count) j 1)) (columns (x .start) (x .len) (set (x .count) j 2))) x) k ≡ columnIn x k
     by true true = rw (getD-set-other (x .start) j k s 0 d, getD-set-other (x .len) j k n 0 d, getD-set-other (x .count) j k 1 0 d)
     by true false = rw (getD-set-other (x .count) j k 2 0 d)
     by false q = refl
 
 -- ---- the pass
 
-abbrev pub slotsFrom : Slots → List Piece → Slots
-slotsFrom x [] = x
-slotsFrom x (g ∷ gs) = slotsFrom (noted x g) gs
+abbrev pub columnsFrom : Columns → List Piece → Columns
+columnsFrom x [] = x
+columnsFrom x (g ∷ gs) = columnsFrom (noted x g) gs
 
-abbrev pub noSlots : Slots
-noSlots = slots (replicate slotCount 0) (replicate slotCount 0) (replicate slotCount 0)
+abbrev pub noColumns : Columns
+noColumns = columns (replicate columnCount 0) (replicate columnCount 0) (replicate columnCount 0)
 
 -- one step of it
-pub pass-on : (x y : Slots) (g : Piece) (gs hs : List Piece) → hs ≡ g ∷ gs → y ≡ noted x g → slotsFrom x hs ≡ slotsFrom y gs
+pub pass-on : (x y : Columns) (g : Piece) (gs hs : List Piece) → hs ≡ g ∷ gs → y ≡ noted x g → columnsFrom x hs ≡ columnsFrom y gs
 pass-on x y g gs hs e f = rw (e, f)
 
-sized-from : (x : Slots) (gs : List Piece) → Sized x → Sized (slotsFrom x gs)
+sized-from : (x : Columns) (gs : List Piece) → Sized x → Sized (columnsFrom x gs)
 sized-from x [] z = z
 sized-from x (g ∷ gs) z = sized-from (noted x g) gs (sized x g z)
 
-zeros : Sized noSlots
-zeros = record { starts = length-replicate {A = ℕ} slotCount 0; lens = length-replicate {A = ℕ} slotCount 0; counts = length-replicate {A = ℕ} slotCount 0 }
+zeros : Sized noColumns
+zeros = record { starts = length-replicate {A = ℕ} columnCount 0; lens = length-replicate {A = ℕ} columnCount 0; counts = length-replicate {A = ℕ} columnCount 0 }
 
-module _ (t : ℕ) (h : slotOf t < slotCount) where
-  noted-slot : (x : Slots) (g : Piece) → Sized x → slotIn (noted x g) (slotOf t) ≡ marked t (slotIn x (slotOf t)) g
+module _ (t : ℕ) (h : columnOf t < columnCount) where
+  noted-column : (x : Columns) (g : Piece) → Sized x → columnIn (noted x g) (columnOf t) ≡ marked t (columnIn x (columnOf t)) g
   unfolding noted
-  noted-slot x Stray z = refl
-  noted-slot x (Field u s n) z = by (eqb u t) refl
+  noted-column x Stray z = refl
+  noted-column x (Field u s n) z = by (eqb u t) refl
     where
-      by : (q : Bool) → eqb u t ≡ q → slotIn (notedAt x (slotOf u) s n) (slotOf t) ≡ cond q (more (slotIn x (slotOf t)) s n) (slotIn x (slotOf t))
-      by true e = let q : u ≡ t = eqb-true u t e in ap (λ (v : ℕ). slotIn (notedAt x (slotOf v) s n) (slotOf t)) q ∙ own x (slotOf t) s n h z
-      by false e = other x (slotOf u) (slotOf t) s n (λ q. eqb-false u t e (slot-own t u h q))
+      by : (q : Bool) → eqb u t ≡ q → columnIn (notedAt x (columnOf u) s n) (columnOf t) ≡ cond q (more (columnIn x (columnOf t)) s n) (columnIn x (columnOf t))
+      by true e = let q : u ≡ t = eqb-true u t e in ap (λ (v : ℕ). columnIn (notedAt x (columnOf v) s n) (columnOf t)) q ∙ own x (columnOf t) s n h z
+      by false e = other x (columnOf u) (columnOf t) s n (λ q. eqb-false u t e (column-own t u h q))
 
-  slot-from : (x : Slots) (gs : List Piece) → Sized x → slotIn (slotsFrom x gs) (slotOf t) ≡ markedBy t (slotIn x (slotOf t)) gs
-  slot-from x [] z = refl
-  slot-from x (g ∷ gs) z = slot-from (noted x g) gs (sized x g z) ∙ ap (λ (y : Slot). markedBy t y gs) (noted-slot x g z)
+  column-from : (x : Columns) (gs : List Piece) → Sized x → columnIn (columnsFrom x gs) (columnOf t) ≡ markedBy t (columnIn x (columnOf t)) gs
+  column-from x [] z = refl
+  column-from x (g ∷ gs) z = column-from (noted x g) gs (sized x g z) ∙ ap (λ (y : Column). markedBy t y gs) (noted-column x g z)
 
-  slot-is : (gs : List Piece) → slotIn (slotsFrom noSlots gs) (slotOf t) ≡ slot (startIn (placeFrom t gs)) (lenIn (placeFrom t gs)) (min 2 (hitsIn t gs))
-  slot-is gs =
-      slot-from noSlots gs zeros
-      ∙ ap (λ (m : ℕ). markedBy t (slot m m m) gs) (getD-replicate slotCount (slotOf t) 0 0 h)
+  column-is : (gs : List Piece) → columnIn (columnsFrom noColumns gs) (columnOf t) ≡ column (startIn (placeFrom t gs)) (lenIn (placeFrom t gs)) (min 2 (hitsIn t gs))
+  column-is gs =
+      column-from noColumns gs zeros
+      ∙ ap (λ (m : ℕ). markedBy t (column m m m) gs) (getD-replicate columnCount (columnOf t) 0 0 h)
       ∙ marked-all t gs
 
-slots-by : (x : Slots) (a b c : List ℕ) → x .start ≡ a → x .len ≡ b → x .count ≡ c → x ≡ slots a b c
-slots-by x a b c e f g = rw (← e, ← f, ← g)
+columns-by : (x : Columns) (a b c : List ℕ) → x .start ≡ a → x .len ≡ b → x .count ≡ c → x ≡ columns a b c
+columns-by x a b c e f g = rw (← e, ← f, ← g)
 
-pub filled : (body : List ℕ) → slotsFrom noSlots (located 0 (piecesOf body)) ≡ slots (indexOf body .start) (indexOf body .len) (indexOf body .count)
+pub filled : (body : List ℕ) → columnsFrom noColumns (located 0 (piecesOf body)) ≡ columns (indexOf body .start) (indexOf body .len) (indexOf body .count)
 unfolding indexOf placeOf countOf
 filled body =
     let gs = located 0 (piecesOf body) in
-    let x = slotsFrom noSlots gs in
-    let z = sized-from noSlots gs zeros in
-    slots-by x _ _ _
-    (by-slots (λ (t : ℕ). startIn (placeFrom t gs)) (x .start) (z .starts) (λ t h. ap (λ (y : Slot). y .start) (slot-is t h gs)))
-    (by-slots (λ (t : ℕ). lenIn (placeFrom t gs)) (x .len) (z .lens) (λ t h. ap (λ (y : Slot). y .len) (slot-is t h gs)))
-    (by-slots (λ (t : ℕ). min 2 (length (valuesOf t (piecesOf body)))) (x .count) (z .counts)
-    (λ t h. ap (λ (y : Slot). y .count) (slot-is t h gs) ∙ ap (min 2) (sym (count-at t 0 (piecesOf body)))))
+    let x = columnsFrom noColumns gs in
+    let z = sized-from noColumns gs zeros in
+    columns-by x _ _ _
+    (by-columns (λ (t : ℕ). startIn (placeFrom t gs)) (x .start) (z .starts) (λ t h. ap (λ (y : Column). y .start) (column-is t h gs)))
+    (by-columns (λ (t : ℕ). lenIn (placeFrom t gs)) (x .len) (z .lens) (λ t h. ap (λ (y : Column). y .len) (column-is t h gs)))
+    (by-columns (λ (t : ℕ). min 2 (length (valuesOf t (piecesOf body)))) (x .count) (z .counts)
+    (λ t h. ap (λ (y : Column). y .count) (column-is t h gs) ∙ ap (min 2) (sym (count-at t 0 (piecesOf body)))))
 
 pub scan-law : (body : List ℕ) → indexOf body .scan ≡ scanOf (piecesOf body)
 unfolding indexOf
 scan-law body = refl
 
 -- what the pass leaves behind is the index
-pub index-is : (body start len count : List ℕ) (scan : Scan) → slotsFrom noSlots (located 0 (piecesOf body)) ≡ slots start len count → scanOf (piecesOf body) ≡ scan
+pub index-is : (body start len count : List ℕ) (scan : Scan) → columnsFrom noColumns (located 0 (piecesOf body)) ≡ columns start len count → scanOf (piecesOf body) ≡ scan
     → record { start = start; len = len; count = count; scan = scan } ≡ indexOf body
 index-is body start len count scan e f =
     let g = sym e ∙ filled body in
     let h : scan ≡ indexOf body .scan = sym f ∙ sym (scan-law body) in
-    ap (λ (x : Slots). made x scan) g ∙ ap (made (slots (indexOf body .start) (indexOf body .len) (indexOf body .count))) h
+    ap (λ (x : Columns). made x scan) g ∙ ap (made (columns (indexOf body .start) (indexOf body .len) (indexOf body .count))) h
   where
-    made : Slots → Scan → Index
+    made : Columns → Scan → Index
     made x q = record { start = x .start; len = x .len; count = x .count; scan = q }
 
 -- ---- lookups by the index of a body, for every tag
@@ -297,22 +297,22 @@ none-there (v ∷ vs) = ne-eqb (min 2 (suc (length vs))) 0 (λ z. omega arith)
 module _ (body : List ℕ) (tag : ℕ) where
   pub value-law : valueIn body (indexOf body .start) (indexOf body .len) tag ≡ textAt tag (piecesOf body)
   unfolding valueIn indexOf
-  value-law = by (ltb (slotOf tag) slotCount) refl
+  value-law = by (ltb (columnOf tag) columnCount) refl
     where
-      by : (q : Bool) → ltb (slotOf tag) slotCount ≡ q
-          → cond q (part (getD (indexOf body .start) (slotOf tag) 0) (getD (indexOf body .len) (slotOf tag) 0) body) (textAt tag (piecesOf body)) ≡ textAt tag (piecesOf body)
+      by : (q : Bool) → ltb (columnOf tag) columnCount ≡ q
+          → cond q (part (getD (indexOf body .start) (columnOf tag) 0) (getD (indexOf body .len) (columnOf tag) 0) body) (textAt tag (piecesOf body)) ≡ textAt tag (piecesOf body)
       by true e =
-          let h = ltb-true (slotOf tag) slotCount e in
-          rw (at-slot (λ (t : ℕ). startIn (placeOf t body)) tag h, at-slot (λ (t : ℕ). lenIn (placeOf t body)) tag h)
+          let h = ltb-true (columnOf tag) columnCount e in
+          rw (at-column (λ (t : ℕ). startIn (placeOf t body)) tag h, at-column (λ (t : ℕ). lenIn (placeOf t body)) tag h)
           (part-place body (placeOf tag body) ∙ value-at tag body)
       by false e = refl
 
   counted : countIn body (indexOf body .count) tag ≡ countOf tag (piecesOf body)
   unfolding countIn indexOf
-  counted = by (ltb (slotOf tag) slotCount) refl
+  counted = by (ltb (columnOf tag) columnCount) refl
     where
-      by : (q : Bool) → ltb (slotOf tag) slotCount ≡ q → cond q (getD (indexOf body .count) (slotOf tag) 0) (countOf tag (piecesOf body)) ≡ countOf tag (piecesOf body)
-      by true e = at-slot (λ (t : ℕ). countOf t (piecesOf body)) tag (ltb-true (slotOf tag) slotCount e)
+      by : (q : Bool) → ltb (columnOf tag) columnCount ≡ q → cond q (getD (indexOf body .count) (columnOf tag) 0) (countOf tag (piecesOf body)) ≡ countOf tag (piecesOf body)
+      by true e = at-column (λ (t : ℕ). countOf t (piecesOf body)) tag (ltb-true (columnOf tag) columnCount e)
       by false e = refl
 
   pub count-law : countIn body (indexOf body .count) tag ≡ min 2 (length (valuesOf tag (piecesOf body)))

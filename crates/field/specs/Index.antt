@@ -13,23 +13,23 @@ use Rattle.field.specs.declared.Piece.{Piece}
 use Rattle.field.specs.declared.Piece.the-variants.{Field, Stray}
 use Rattle.field.specs.declared.Index.{Index}
 
--- the tags that the index keeps, in the order of their slots: those of the header and of the tables
+-- the tags that the index keeps, in the order of their columns: those of the header and of the tables
 unfoldable pub listed : List ℕ
 listed =
     34 ∷ 49 ∷ 56 ∷ 43 ∷ 52 ∷ 97 ∷ 98 ∷ 108 ∷ 141 ∷ 112 ∷ 7 ∷ 16 ∷ 123 ∷ 36 ∷ 17 ∷ 37 ∷ 20 ∷ 55 ∷ 54 ∷ 38 ∷ 32 ∷ 31 ∷ 14 ∷ 151 ∷ 150 ∷ 39
     ∷ 60 ∷ 442 ∷ 35 ∷ []
 
 -- how many they are: the one place of this number
-abbrev pub slotCount : ℕ
-slotCount = 29
+abbrev pub columnCount : ℕ
+columnCount = 29
 
 -- where a number stands in a list, and the list's length where it does not
 unfoldable pub position : List ℕ → ℕ → ℕ
 position [] u = 0
 position (t ∷ ts) u = let later = suc (position ts u) in cond (eqb u t) 0 later
 
-unfoldable pub slotOf : ℕ → ℕ
-slotOf tag = position listed tag
+unfoldable pub columnOf : ℕ → ℕ
+columnOf tag = position listed tag
 
 -- ---- the index
 
@@ -54,34 +54,34 @@ indexOf body =
       scan = scanOf (piecesOf body);
     }
 
--- ---- lookups: a listed tag by its slot, another by the body
+-- ---- lookups: a listed tag by its column, another by the body
 
 unfoldable pub valueIn : List ℕ → List ℕ → List ℕ → ℕ → List ℕ
 valueIn body start len tag =
-    cond (ltb (slotOf tag) slotCount) (part (getD start (slotOf tag) 0) (getD len (slotOf tag) 0) body) (textAt tag (piecesOf body))
+    cond (ltb (columnOf tag) columnCount) (part (getD start (columnOf tag) 0) (getD len (columnOf tag) 0) body) (textAt tag (piecesOf body))
 
 unfoldable pub countIn : List ℕ → List ℕ → ℕ → ℕ
-countIn body count tag = cond (ltb (slotOf tag) slotCount) (getD count (slotOf tag) 0) (countOf tag (piecesOf body))
+countIn body count tag = cond (ltb (columnOf tag) columnCount) (getD count (columnOf tag) 0) (countOf tag (piecesOf body))
 
--- ---- how a pass fills it: one list of each number, by slots
+-- ---- how a pass fills it: one list of each number, by columns
 
-pub record Slots : Type 0 where
+pub record Columns : Type 0 where
   pub start : List ℕ
   pub len : List ℕ
   pub count : List ℕ
 
-abbrev pub slots : List ℕ → List ℕ → List ℕ → Slots
-slots s n c = record { start = s; len = n; count = c }
+abbrev pub columns : List ℕ → List ℕ → List ℕ → Columns
+columns s n c = record { start = s; len = n; count = c }
 
--- one field more of slot k, whose value stands at s and has n bytes
-unfoldable pub notedAt : Slots → ℕ → ℕ → ℕ → Slots
+-- one field more of column k, whose value stands at s and has n bytes
+unfoldable pub notedAt : Columns → ℕ → ℕ → ℕ → Columns
 notedAt x k s n =
-    cond (ltb k slotCount)
+    cond (ltb k columnCount)
     (cond (eqb (getD (x .count) k 0) 0)
-    (slots (set (x .start) k s) (set (x .len) k n) (set (x .count) k 1))
-    (slots (x .start) (x .len) (set (x .count) k 2)))
+    (columns (set (x .start) k s) (set (x .len) k n) (set (x .count) k 1))
+    (columns (x .start) (x .len) (set (x .count) k 2)))
     x
 
-unfoldable pub noted : Slots → Piece → Slots
+unfoldable pub noted : Columns → Piece → Columns
 noted x Stray = x
-noted x (Field u s n) = notedAt x (slotOf u) s n
+noted x (Field u s n) = notedAt x (columnOf u) s n

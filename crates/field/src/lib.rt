@@ -10,7 +10,7 @@ ghost use lib.ListN.{length};
 ghost use Rattle.text.specs.Decimal.{digitRun};
 ghost use Rattle.field.specs.Pieces.{piecesOf, tagged, textAt, andThen};
 ghost use Rattle.field.specs.Stands.{stepOf, placeOf, faultOf, hits};
-ghost use Rattle.field.specs.Index.{slotOf, countOf, indexOf, valueIn, countIn, slots, notedAt, noted};
+ghost use Rattle.field.specs.Index.{columnOf, countOf, indexOf, valueIn, countIn, columns, notedAt, noted};
 
 // The first fault of the pieces of a body: none, a piece that is no field, or a field without a value, by its tag.
 pub enum Scan {
@@ -109,9 +109,9 @@ fn step_from(body: &[u8], at: usize) -> Step
     }
 }
 
-// A listed tag's slot, and TAGS for a tag that is not listed.
-fn slot_of(tag: u32) -> usize
-    ensures { λ r. ⌜ r ≡ slotOf tag ⌝ }
+// A listed tag's column, and TAGS for a tag that is not listed.
+fn column_of(tag: u32) -> usize
+    ensures { λ r. ⌜ r ≡ columnOf tag ⌝ }
 {
     match tag {
         34 => 0,
@@ -174,7 +174,7 @@ fn and_then(sooner: Scan, later: Scan) -> Scan
     }
 }
 
-// One field more of slot k, if k is one: the first is kept, a second and a third are counted as 2.
+// One field more of column k, if k is one: the first is kept, a second and a third are counted as 2.
 fn note_at(
     start: &mut [usize; TAGS],
     len: &mut [usize; TAGS],
@@ -184,8 +184,8 @@ fn note_at(
     n: usize,
 )
     ensures { λ r. ⌜
-        slots (now (start .exit)) (now (len .exit)) (now (count .exit))
-        ≡ notedAt (slots (now (start .entry)) (now (len .entry)) (now (count .entry))) k s n
+        columns (now (start .exit)) (now (len .exit)) (now (count .exit))
+        ≡ notedAt (columns (now (start .entry)) (now (len .entry)) (now (count .entry))) k s n
         ⌝ }
 {
     if k < TAGS {
@@ -202,8 +202,8 @@ fn note_at(
 // The same of a piece.
 fn note(start: &mut [usize; TAGS], len: &mut [usize; TAGS], count: &mut [u8; TAGS], piece: Piece)
     ensures { λ r. ⌜
-        slots (now (start .exit)) (now (len .exit)) (now (count .exit))
-        ≡ noted (slots (now (start .entry)) (now (len .entry)) (now (count .entry))) piece
+        columns (now (start .exit)) (now (len .exit)) (now (count .exit))
+        ≡ noted (columns (now (start .entry)) (now (len .entry)) (now (count .entry))) piece
         ⌝ }
 {
     match piece {
@@ -212,7 +212,7 @@ fn note(start: &mut [usize; TAGS], len: &mut [usize; TAGS], count: &mut [u8; TAG
             start: s,
             len: n,
         } => {
-            let k = slot_of(tag);
+            let k = column_of(tag);
             note_at(start, len, count, k, s, n);
         }
         Piece::Stray => {}
@@ -323,7 +323,7 @@ pub fn value_at<'a, 'b>(
 ) -> &'a [u8]
     ensures { λ r. ⌜ now r ≡ valueIn (now (body .entry)) (now (start .entry)) (now (len .entry)) tag ⌝ }
 {
-    let k = slot_of(tag);
+    let k = column_of(tag);
     if k < TAGS {
         return part(body, start[k], len[k]);
     }
@@ -334,7 +334,7 @@ pub fn value_at<'a, 'b>(
 pub fn count_at(body: &[u8], counts: &[u8; TAGS], tag: u32) -> u8
     ensures { λ r. ⌜ r ≡ countIn (now (body .entry)) (now (counts .entry)) tag ⌝ }
 {
-    let k = slot_of(tag);
+    let k = column_of(tag);
     if k < TAGS {
         return counts[k];
     }

@@ -1,4 +1,4 @@
--- A listed tag by its slot, another by the body.
+-- A listed tag by its column, another by the body.
 use borrow.Author.Needs.{needs}
 use borrow.Author.Tests.{lt-ltb, le-ltb}
 use Rattle.field.specs.Index.{countIn}
@@ -7,11 +7,11 @@ use Rattle.field.proofs.count_at.Tie as tie
 
 returns : tie.Need-returns
 unfolding countIn
-returns c = rw (← c .before .before .slot-of .ensures, lt-ltb _ _ (c .before .if1 .taken))
+returns c = rw (← c .before .before .column-of .ensures, lt-ltb _ _ (c .before .if1 .taken))
 
 returns-2 : tie.Need-returns-2
 unfolding countIn
-returns-2 c = rw (← c .before .before .slot-of .ensures, le-ltb _ _ (c .before .if1 .left)) (c .count .ensures)
+returns-2 c = rw (← c .before .before .column-of .ensures, le-ltb _ _ (c .before .if1 .left)) (c .count .ensures)
 
 pub count-at-spec : {M : Type 1} → statement M
 count-at-spec =

@@ -7,16 +7,16 @@ use native.Mathlib.Omega.{arith}
 use lib.ListN.{length}
 use Rattle.field.specs.Pieces.{piecesOf, scanOf, andThen}
 use Rattle.field.specs.Stands.{located}
-use Rattle.field.specs.Index.{slots}
+use Rattle.field.specs.Index.{columns}
 use Rattle.field.specs.declared.Piece.{Piece}
 use Rattle.field.proofs.Cuts.{restAt, Stepped, stepped, rest-end, scanIn, scan-at, and-then-sound, and-then-assoc}
-use Rattle.field.proofs.IndexLaws.{slotsFrom, noSlots, pass-on, index-is}
+use Rattle.field.proofs.IndexLaws.{columnsFrom, noColumns, pass-on, index-is}
 use Rattle.field.proofs.indexed.Statement.{statement}
 use Rattle.field.proofs.indexed.Tie as tie
 
 abbrev Inv-loop : tie.InvT-loop
 Inv-loop body start₀ len₀ count₀ scan₀ i₀ start len count scan i =
-    (i ≤ length body) × (slotsFrom noSlots (located 0 (piecesOf body)) ≡ slotsFrom (slots start len count) (restAt body i))
+    (i ≤ length body) × (columnsFrom noColumns (located 0 (piecesOf body)) ≡ columnsFrom (columns start len count) (restAt body i))
     × (scanOf (piecesOf body) ≡ andThen scan (scanIn (restAt body i)))
 
 abbrev μ-loop : tie.MeasureT-loop
@@ -48,7 +48,7 @@ returns c =
     let l = p .before .before .args .body .now in
     let e = rest-end l (p .loop .i) (omega arith) in
     index-is l _ _ _ _
-    (p .loop .inv .1 ∙ ap (slotsFrom (slots (p .loop .start) (p .loop .len) (p .loop .count))) e)
+    (p .loop .inv .1 ∙ ap (columnsFrom (columns (p .loop .start) (p .loop .len) (p .loop .count))) e)
     (p .loop .inv .2 ∙ ap (λ (gs : List Piece). andThen (p .loop .scan) (scanIn gs)) e ∙ and-then-sound (p .loop .scan))
 
 pub indexed-spec : {M : Type 1} → statement M

@@ -1,4 +1,4 @@
--- A field goes to its tag's slot.
+-- A field goes to its tag's column.
 use borrow.Author.Needs.{needs}
 use Rattle.field.specs.Index.{noted}
 use Rattle.field.proofs.note.Statement.{statement}
@@ -6,7 +6,7 @@ use Rattle.field.proofs.note.Tie as tie
 
 returns : tie.Need-returns
 unfolding noted
-returns c = let k = c .before .before .before .before in rw (k .before .before .piece .given .1, ← k .slot-of .ensures) (c .note-at .ensures)
+returns c = let k = c .before .before .before .before in rw (k .before .before .piece .given .1, ← k .column-of .ensures) (c .note-at .ensures)
 
 returns-2 : tie.Need-returns-2
 unfolding noted

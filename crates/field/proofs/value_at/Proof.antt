@@ -1,4 +1,4 @@
--- A listed tag by its slot, another by the body.
+-- A listed tag by its column, another by the body.
 use borrow.Author.Needs.{needs}
 use borrow.Author.Tests.{lt-ltb, le-ltb}
 use Rattle.field.specs.Index.{valueIn}
@@ -7,11 +7,11 @@ use Rattle.field.proofs.value_at.Tie as tie
 
 returns : tie.Need-returns
 unfolding valueIn
-returns c = let q = c .before .before .before in rw (← q .before .slot-of .ensures, lt-ltb _ _ (q .if1 .taken)) (c .part .ensures)
+returns c = let q = c .before .before .before in rw (← q .before .column-of .ensures, lt-ltb _ _ (q .if1 .taken)) (c .part .ensures)
 
 returns-2 : tie.Need-returns-2
 unfolding valueIn
-returns-2 c = rw (← c .before .before .slot-of .ensures, le-ltb _ _ (c .before .if1 .left)) (c .value-of .ensures)
+returns-2 c = rw (← c .before .before .column-of .ensures, le-ltb _ _ (c .before .if1 .left)) (c .value-of .ensures)
 
 pub value-at-spec : {M : Type 1} → statement M
 value-at-spec =

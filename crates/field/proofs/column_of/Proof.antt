@@ -1,12 +1,12 @@
--- The slots are the tags' positions in the list.
+-- The columns are the tags' positions in the list.
 use borrow.Author.Tests.{ne-eqb}
-use Rattle.field.specs.Index.{slotOf, position, listed}
-use Rattle.field.proofs.slot_of.Statement.{statement}
-use Rattle.field.proofs.slot_of.Tie as tie
+use Rattle.field.specs.Index.{columnOf, position, listed}
+use Rattle.field.proofs.column_of.Statement.{statement}
+use Rattle.field.proofs.column_of.Tie as tie
 
 -- a tag that is no key of the match is not listed
 not-listed : tie.Need-returns-30
-unfolding slotOf position listed
+unfolding columnOf position listed
 not-listed c =
     rw (
       ne-eqb _ 34 (c .match .rest .0 .0 .0 .0 .0 .0 .0 .0 .0 .0 .0 .0 .0 .0 .0 .0 .0 .0 .0 .0 .0 .0 .0 .0 .0 .0 .0 .0 .1),
@@ -40,9 +40,9 @@ not-listed c =
       ne-eqb _ 35 (c .match .rest .1),
     )
 
-pub slot-of-spec : {M : Type 1} → statement M
-unfolding slotOf position listed
-slot-of-spec =
+pub column-of-spec : {M : Type 1} → statement M
+unfolding columnOf position listed
+column-of-spec =
     tie.close
     (tie.spec
     (λ c. rw (c .match .keys1))
