@@ -1,4 +1,5 @@
 -- A piece, told from the text that it is the front of: its tag is read first, and its `|` looked for behind it.
+--     front-six     the digits at its front, of which six are read
 --     no-digit, too-long, zero-first, by-equals     whether it begins with a tag and `=`, in the order of the definition's tests
 --     some-byte     where there is a digit there is a byte
 --     stray-mark, tag-mark     where its `|` stands
@@ -17,7 +18,7 @@ use borrow.Author.Tests.{eq-eqb, ne-eqb, eqb-true}
 use Rattle.octet.specs.Bytes.{between, untilByte}
 use Rattle.octet.proofs.Cases.{le-or-lt, and-both}
 use Rattle.octet.proofs.Lists.{is-between, is-below, is-above, between-high, length-part, part-part, run-most, until-in, until-most, until-go}
-use Rattle.text.specs.Decimal.{digits, digitRun, digitsAtFront}
+use Rattle.text.specs.Decimal.{digits, digitRun, digitsTaken, digitsAtFront}
 use Rattle.text.specs.declared.Digits.{Digits}
 use Rattle.text.proofs.ReadLaws.{front-in}
 use Rattle.text.proofs.Layouts.{until-past}
@@ -44,6 +45,13 @@ run-take (suc n) (b ∷ s) = by (between 48 57 b) (run-take n s)
     by : (t : Bool) → digitRun (take n s) ≡ min n (digitRun s) → cond t (suc (digitRun (take n s))) 0 ≡ min (suc n) (cond t (suc (digitRun s)) 0)
     by true e = omega arith
     by false e = omega arith
+
+-- six bytes are enough to read six digits
+pub front-six : (s : List ℕ) → digitsAtFront 6 (take 6 s) ≡ digitsAtFront 6 s
+unfolding digitsAtFront
+front-six s =
+    let e : digitsTaken 6 (take 6 s) ≡ digitsTaken 6 s = rw (run-take 6 s) (omega arith) in
+    rw (e, part-part 0 6 0 (digitsTaken 6 s) s (omega arith))
 
 behind : (k : ℕ) (s : List ℕ) → k ≤ digitRun s → untilByte 1 s ≡ k + untilByte 1 (drop k s)
 behind k s h =

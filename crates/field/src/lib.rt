@@ -3,11 +3,12 @@
 use octet::byte_at;
 use octet::part;
 use octet::until;
+use text::Digits;
 use text::read_digits;
 ghost use mathlib.Core.Path.{_≡_};
 ghost use Prim.Native.Nat.{_+_, _≤_, min};
 ghost use lib.ListN.{length};
-ghost use Rattle.text.specs.Decimal.{digitRun};
+ghost use Rattle.text.specs.Decimal.{digitRun, digitsAtFront};
 ghost use Rattle.field.specs.Pieces.{piecesOf, tagged, textAt, andThen};
 ghost use Rattle.field.specs.Stands.{stepOf, placeOf, faultOf, hits};
 ghost use Rattle.field.specs.Index.{columnOf, countOf, indexOf, valueIn, countIn, columns, notedAt, noted};
@@ -55,8 +56,21 @@ const MARK: u8 = 1;
 // A tag has so many digits at most.
 const TAG_DIGITS: usize = 5;
 
-// Whether a piece begins with a tag and `=`, told from the rest of the body and how many digits stand at its front. One digit
-// more than a tag may have is counted, so that a longer run is seen.
+// So many are read.
+const DIGITS_READ: usize = TAG_DIGITS + 1;
+
+// The digits at the front of a text: one more than a tag may have, so that a longer run is seen. Where there is room for all
+// of them the bytes are handed on as so many, and no digit is asked whether it is the last byte.
+fn digits_of(rest: &[u8]) -> Digits
+    ensures { λ r. ⌜ (r ≡ digitsAtFront 6 (now (rest .entry))) × (r .len ≤ 6) × (r .len ≤ length (now (rest .entry))) ⌝ }
+{
+    if rest.len() < DIGITS_READ {
+        return read_digits(rest, DIGITS_READ);
+    }
+    read_digits(&rest[..DIGITS_READ], DIGITS_READ)
+}
+
+// Whether a piece begins with a tag and `=`, told from the rest of the body and how many digits were read at its front.
 fn is_tagged(rest: &[u8], run: usize) -> bool
     requires { ⌜ run ≡ min 6 (digitRun (now rest)) ⌝ }
     ensures { λ r. ⌜ r ≡ tagged (now (rest .entry)) ⌝ }
@@ -87,7 +101,7 @@ fn step_from(body: &[u8], at: usize) -> Step
     ensures { λ r. ⌜ r ≡ stepOf at (now (body .entry)) ⌝ }
 {
     let rest = &body[at..];
-    let digits = read_digits(rest, TAG_DIGITS + 1);
+    let digits = digits_of(rest);
     let run = digits.len;
     if is_tagged(rest, run) {
         let skip = run + 1;

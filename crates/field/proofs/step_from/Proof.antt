@@ -25,14 +25,14 @@ mark-in : (t : tie.Start) → t .args .at + untilByte 1 (restOf t) ≤ length (t
 mark-in t = omega (arith, until-most 1 (restOf t), length-drop (t .args .at) (t .args .body .now), t .pre)
 
 -- the digits and the test for a tag are those of it
-read : (d : tie.After-read-digits) → d .read-digits .result ≡ digitsAtFront 6 (restOf (d .before .before .before))
-read d = d .read-digits .ensures .0 ∙ ap (digitsAtFront 6) (whole (d .before .before .before))
+read : (d : tie.After-digits-of) → d .digits-of .result ≡ digitsAtFront 6 (restOf (d .before .before .before))
+read d = d .digits-of .ensures .0 ∙ ap (digitsAtFront 6) (whole (d .before .before .before))
 
 told : (q : tie.After-is-tagged) → q .is-tagged .result ≡ tagged (restOf (q .before .before .before .before))
 told q = q .is-tagged .ensures ∙ ap tagged (whole (q .before .before .before .before))
 
 is-tagged-requires : tie.Need-is-tagged-requires
-is-tagged-requires c κs = len-is _ _ (c .read-digits .ensures .0)
+is-tagged-requires c κs = len-is _ _ (c .digits-of .ensures .0)
 
 -- ---- a tag
 
@@ -45,17 +45,17 @@ sub-until c =
     omega (arith, tag-mark _ _ (read (c .before .before)) (tag-there c), until-most 1 (restOf t), ap length (whole t))
 
 behind-tag : (u : tie.After-until) → let d = u .before .before .before .before in
-    u .until .result ≡ untilByte 1 (drop (d .read-digits .result .len + 1) (restOf (d .before .before .before)))
+    u .until .result ≡ untilByte 1 (drop (d .digits-of .result .len + 1) (restOf (d .before .before .before)))
 behind-tag u =
     let d = u .before .before .before .before in
     let t = d .before .before .before in
-    rw (u .until .ensures, whole t, part-rest (restOf t) (d .read-digits .result .len + 1))
+    rw (u .until .ensures, whole t, part-rest (restOf t) (d .digits-of .result .len + 1))
 
 mark-is : (u : tie.After-until) → let d = u .before .before .before .before in
-    untilByte 1 (restOf (d .before .before .before)) ≡ d .read-digits .result .len + 1 + u .until .result
+    untilByte 1 (restOf (d .before .before .before)) ≡ d .digits-of .result .len + 1 + u .until .result
 mark-is u =
     let d = u .before .before .before .before in
-    tag-mark _ _ (read d) (tag-there (u .before .before)) ∙ ap (λ (n : ℕ). d .read-digits .result .len + 1 + n) (sym (behind-tag u))
+    tag-mark _ _ (read d) (tag-there (u .before .before)) ∙ ap (λ (n : ℕ). d .digits-of .result .len + 1 + n) (sym (behind-tag u))
 
 add-after : tie.Need-add-after
 add-after c = let t = c .before .before .before .before .before .before .before in omega (arith, mark-is c, mark-in t)
@@ -72,11 +72,11 @@ returns c =
 -- ---- none
 
 stray-is : (u : tie.After-until2) → let d = u .before .before .before .before in
-    untilByte 1 (restOf (d .before .before .before)) ≡ d .read-digits .result .len + u .until2 .result
+    untilByte 1 (restOf (d .before .before .before)) ≡ d .digits-of .result .len + u .until2 .result
 stray-is u =
     let d = u .before .before .before .before in
     let t = d .before .before .before in
-    stray-mark _ _ (read d) ∙ rw (u .until2 .ensures, whole t, part-rest (restOf t) (d .read-digits .result .len))
+    stray-mark _ _ (read d) ∙ rw (u .until2 .ensures, whole t, part-rest (restOf t) (d .digits-of .result .len))
 
 add-n : tie.Need-add-n
 add-n c = let t = c .before .before .before .before .before .before .before in omega (arith, stray-is c, mark-in t)
@@ -97,7 +97,6 @@ pub step-from-spec : {M : Type 1} → statement M
 step-from-spec =
     tie.close
     (tie.spec
-    (λ c. search needs)
     (λ c. search needs)
     (λ c. search needs)
     (λ c. search needs)
