@@ -95,7 +95,7 @@ fn after(end: usize, size: usize) -> usize
 }
 
 // The piece that begins at `at`, and where the next one does. Neither a digit nor `=` is `|`: the tag is read first and the
-// `|` looked for behind it, so that no byte is looked at twice.
+// `|` looked for behind it, so that the tag is not walked over twice.
 fn step_from(body: &[u8], at: usize) -> Step
     requires { ⌜ at ≤ length (now body) ⌝ }
     ensures { λ r. ⌜ r ≡ stepOf at (now (body .entry)) ⌝ }
