@@ -1,46 +1,34 @@
--- Searches and sums over the slots of a lent memory.
+-- Searches and sums over the slots of a lent memory, and the walk that makes them all at once.
 --     find-inside, sum-inside     past the end of the memory there is nothing to find and nothing to add
---     id-search, id-sum     so a search and a sum by an ID look no further
---     find-hit, find-skip, sum-next     a walk: at slot i
---     none-sum     where nothing is found there is nothing to add
---     sum-append     the sum over slots and more of them
---     exec-pred, order-pred     the two predicates are one, over the ID's place
---     found-some, known-none, known-some     what a search hands back
-use mathlib.Core.Path.{_≡_, refl, sym, ap, ap₂, _∙_}
-use mathlib.Core.List.{List, [], _∷_, _++_}
+--     sees-none, sees-turn, sees-done, sees-inside     a walk from the last slot to the first: before it, at a slot, after it, and over all that are
+--     counted
+--     exec-by, order-by     the two predicates, test by test
+--     exec-glance, order-glance     a slot that differs in one word is another
+--     exec-other, exec-found, order-other, order-found     what is seen with one slot more
+--     known-none, known-some     what a search hands back
+use mathlib.Core.Path.{_≡_, refl, sym, ap, ap₂, _∙_, subst}
+use mathlib.Core.List.{List, [], _∷_}
 use mathlib.Core.Option.{Option, none, some}
 use mathlib.Core.Bool.{Bool, true, false, cond, _&&_}
 use mathlib.Core.Logic.{⊎-elim}
 use Prim.Native.Nat.{ℕ, zero, suc, _+_, _-_, _*_, _≤_, _<_, min}
-use native.Mathlib.Nat.{zero-add, add-assoc}
+use native.Mathlib.Nat.{zero-add}
 use native.Mathlib.Omega.{arith}
-use lib.ListN.{length, take, drop, getD, length-drop}
-use lib.Seq.{getD-take}
-use lib.Dec.{eqb}
+use lib.ListN.{length, take, drop, length-drop}
 use Rattle.octet.specs.Bytes.{same, part}
 use Rattle.octet.specs.Maybe.{find}
-use Rattle.octet.proofs.Cases.{bool-case, contrary, le-or-lt, find-here, find-later, and-no-right}
-use Rattle.octet.proofs.Lists.{same-sym, length-differs, length-part, part-part}
-use Rattle.fill.specs.Slot.{Slot, slotWidth, mostFills, bookWidth, fillMark, isFill, execOf, orderOf, sharesOf}
+use Rattle.octet.specs.Places.{wordAt}
+use Rattle.octet.proofs.Cases.{contrary, le-or-lt, of-cond, cond-true, cond-false, and-no-right, find-here, find-later}
+use Rattle.octet.proofs.Lists.{part-past}
+use Rattle.octet.proofs.Places.{word-differs}
+use Rattle.fill.specs.Slot.{Slot, slotWidth, mostFills, bookWidth, isFill, execOf, orderOf, sharesOf}
 use Rattle.book.specs.Place.{sameExec, sameOrder, sumWhere}
 use Rattle.book.specs.Memory.{slotsIn}
-use Rattle.book.specs.Known.{execAt, orderAt, idWidth, hasId, someSlot}
-use Rattle.book.proofs.Slots.{slots-next, slots-last}
-
--- ---- the predicates
-pub exec-pred : (a : Slot) → sameExec a ≡ hasId execAt (execOf a)
-unfolding sameExec hasId
-exec-pred a = refl
-
-pub order-pred : (a : Slot) → sameOrder a ≡ hasId orderAt (orderOf a)
-unfolding sameOrder hasId
-order-pred a = refl
+use Rattle.book.specs.Known.{someSlot, Sees}
+use Rattle.book.specs.declared.Seen.{Seen}
+use Rattle.book.proofs.Slots.{slots-first, slots-next, slots-last}
 
 -- no predicate accepts an empty slot
-pub id-empty : (off : ℕ) (x : List ℕ) → hasId off x [] ≡ false
-unfolding hasId
-id-empty off x = refl
-
 pub exec-empty : (a : Slot) → sameExec a [] ≡ false
 unfolding sameExec
 exec-empty a = refl
@@ -57,10 +45,6 @@ known-none (b ∷ k) h = absurd (omega arith)
 pub known-some : (k : Slot) → (length k ≡ 0 → ⊥) → someSlot k ≡ some k
 known-some [] h = absurd (h refl)
 known-some (b ∷ k) h = refl
-
-pub found-some : (off : ℕ) (x : List ℕ) (s : Slot) → hasId off x s ≡ true → someSlot s ≡ some s
-found-some off x [] h = contrary h (id-empty off x)
-found-some off x (b ∷ s) h = refl
 
 -- ---- past the end of the memory
 shorter : (k : ℕ) (m : List ℕ) → length m ≤ suc k * slotWidth → length (drop slotWidth m) ≤ k * slotWidth
@@ -110,83 +94,105 @@ module _ (p : Slot → Bool) (passed : p [] ≡ false) where
       (λ h. (let e : min n mostFills ≡ mostFills = omega arith in ap (λ (k : ℕ). sumWhere p (slotsIn k m)) e ∙ sym (sum-past mostFills n m (omega arith) (omega arith))))
       (le-or-lt n mostFills)
 
--- ---- a search and a sum by an ID, over the slots inside, are those over all that are counted
-module _ (off : ℕ) (x y m : List ℕ) (n count : ℕ) (ex : x ≡ y) (en : n ≡ min count mostFills) (whole : length m ≡ bookWidth) where
-  pub id-search : (r : Option Slot) → r ≡ find (hasId off x) (slotsIn n m) → r ≡ find (hasId off y) (slotsIn count m)
-  id-search r e =
-      e
-      ∙ ap₂ (λ (z : List ℕ) (k : ℕ). find (hasId off z) (slotsIn k m)) ex en
-      ∙ find-inside (hasId off y) (id-empty off y) count m whole
+  -- the place of the first that passes, with one slot more before those that were seen
+  found-some : (s : Slot) → p s ≡ true → someSlot s ≡ some s
+  found-some [] h = contrary h passed
+  found-some (b ∷ s) h = refl
 
-  pub id-sum : (r : ℕ) → r ≡ sumWhere (hasId off x) (slotsIn n m) → r ≡ sumWhere (hasId off y) (slotsIn count m)
-  id-sum r e =
-      e
-      ∙ ap₂ (λ (z : List ℕ) (k : ℕ). sumWhere (hasId off z) (slotsIn k m)) ex en
-      ∙ sum-inside (hasId off y) (id-empty off y) count m whole
+  place-next : (m : List ℕ) (i j : ℕ) (ss : List Slot) → someSlot (part (j * slotWidth) slotWidth m) ≡ find p ss
+      → someSlot (part (cond (p (part (i * slotWidth) slotWidth m)) i j * slotWidth) slotWidth m) ≡ find p (part (i * slotWidth) slotWidth m ∷ ss)
+  place-next m i j ss e =
+      let s = part (i * slotWidth) slotWidth m in
+      of-cond (λ (k : ℕ). someSlot (part (k * slotWidth) slotWidth m) ≡ find p (s ∷ ss)) (p s)
+      (λ h. found-some s h ∙ sym (find-here p s ss h))
+      (λ h. e ∙ sym (find-later p s ss h))
 
--- ---- a walk: at slot i
-module _ (p : Slot → Bool) (n i : ℕ) (m : List ℕ) where
-  pub find-hit : i < n → p (part (i * slotWidth) slotWidth m) ≡ true → find p (slotsIn (n - i) (drop (i * slotWidth) m)) ≡ some (part (i * slotWidth) slotWidth m)
-  find-hit h e = ap (find p) (slots-next n i m h) ∙ find-here p (part (i * slotWidth) slotWidth m) (slotsIn (n - (i + 1)) (drop ((i + 1) * slotWidth) m)) e
+-- ---- the walk
+abbrev seenOf : ℕ → ℕ → ℕ → Seen
+seenOf exec order booked = record { exec = exec; order = order; booked = booked }
 
-  pub find-skip : i < n → p (part (i * slotWidth) slotWidth m) ≡ false
-      → find p (slotsIn (n - i) (drop (i * slotWidth) m)) ≡ find p (slotsIn (n - (i + 1)) (drop ((i + 1) * slotWidth) m))
-  find-skip h e = ap (find p) (slots-next n i m h) ∙ find-later p (part (i * slotWidth) slotWidth m) (slotsIn (n - (i + 1)) (drop ((i + 1) * slotWidth) m)) e
+-- what is seen with the slot s at place i: its ExecID, and its order
+abbrev pub execSeen : Slot → Slot → ℕ → Seen → Seen
+execSeen f s i a = record { exec = cond (sameExec f s) i (a .exec); order = a .order; booked = a .booked }
 
-  pub find-end : n ≤ i → find p (slotsIn (n - i) (drop (i * slotWidth) m)) ≡ none
-  find-end h = ap (find p) (slots-last n i (drop (i * slotWidth) m) h)
+abbrev pub orderSeen : Slot → Slot → ℕ → Seen → Seen
+orderSeen f s i a =
+    record { exec = a .exec; order = cond (sameOrder f s) i (a .order); booked = cond (sameOrder f s) (sharesOf s) 0 + a .booked }
 
-  pub sum-next : i < n → sumWhere p (slotsIn (n - i) (drop (i * slotWidth) m))
-      ≡ cond (p (part (i * slotWidth) slotWidth m)) (sharesOf (part (i * slotWidth) slotWidth m)) 0 + sumWhere p (slotsIn (n - (i + 1)) (drop ((i + 1) * slotWidth) m))
+module _ (f s : Slot) where
+  pub exec-by : {a b : Bool} → isFill s ≡ a → same (execOf f) (execOf s) ≡ b → a && b ≡ sameExec f s
+  unfolding sameExec
+  exec-by ea eb = cc
+
+  pub order-by : {a b : Bool} → isFill s ≡ a → same (orderOf f) (orderOf s) ≡ b → a && b ≡ sameOrder f s
+  unfolding sameOrder
+  order-by ea eb = cc
+
+  pub exec-glance : (at : ℕ) (word : ℕ) → word ≡ wordAt at (execOf f) → (wordAt at (execOf s) ≡ word → ⊥) → sameExec f s ≡ false
+  unfolding sameExec
+  exec-glance at word e d =
+      and-no-right (isFill s) (same (execOf f) (execOf s)) (word-differs at (execOf f) (execOf s) (λ x. d (sym x ∙ sym e)))
+
+  pub order-glance : (at : ℕ) (word : ℕ) → word ≡ wordAt at (orderOf f) → (wordAt at (orderOf s) ≡ word → ⊥) → sameOrder f s ≡ false
+  unfolding sameOrder
+  order-glance at word e d =
+      and-no-right (isFill s) (same (orderOf f) (orderOf s)) (word-differs at (orderOf f) (orderOf s) (λ x. d (sym x ∙ sym e)))
+
+  module _ (i : ℕ) (a : Seen) where
+    pub exec-other : sameExec f s ≡ false → a ≡ execSeen f s i a
+    exec-other h = sym (ap (λ (k : ℕ). seenOf k (a .order) (a .booked)) (cond-false (sameExec f s) i (a .exec) h))
+
+    pub exec-found : sameExec f s ≡ true → seenOf i (a .order) (a .booked) ≡ execSeen f s i a
+    exec-found h = sym (ap (λ (k : ℕ). seenOf k (a .order) (a .booked)) (cond-true (sameExec f s) i (a .exec) h))
+
+    pub order-other : sameOrder f s ≡ false → a ≡ orderSeen f s i a
+    order-other h =
+        sym (ap₂ (λ (k n : ℕ). seenOf (a .exec) k n) (cond-false (sameOrder f s) i (a .order) h)
+        (ap (λ (n : ℕ). n + a .booked) (cond-false (sameOrder f s) (sharesOf s) 0 h) ∙ zero-add (a .booked)))
+
+    pub order-found : (n : ℕ) → n ≡ sharesOf s → sameOrder f s ≡ true → seenOf (a .exec) i (n + a .booked) ≡ orderSeen f s i a
+    order-found n e h =
+        sym (ap₂ (λ (k n : ℕ). seenOf (a .exec) k n) (cond-true (sameOrder f s) i (a .order) h)
+        (ap (λ (n : ℕ). n + a .booked) (cond-true (sameOrder f s) (sharesOf s) 0 h ∙ sym e)))
+
+module _ (m : List ℕ) (f : Slot) where
+  pub sees-none : (n : ℕ) → length m ≡ bookWidth → Sees m f (slotsIn (n - n) (drop (n * slotWidth) m)) (record { exec = mostFills; order = mostFills; booked = 0 })
   unfolding sumWhere
-  sum-next h = ap (sumWhere p) (slots-next n i m h)
+  sees-none n l =
+      let e : someSlot (part (mostFills * slotWidth) slotWidth m) ≡ none = ap someSlot (part-past (mostFills * slotWidth) slotWidth m (omega arith)) in
+      rw (slots-last n n (drop (n * slotWidth) m) (omega arith)) (e, e, refl)
 
-  pub sum-end : n ≤ i → sumWhere p (slotsIn (n - i) (drop (i * slotWidth) m)) ≡ 0
+  sees-next : (i : ℕ) (ss : List Slot) (a : Seen) → Sees m f ss a
+      → Sees m f (part (i * slotWidth) slotWidth m ∷ ss) (orderSeen f (part (i * slotWidth) slotWidth m) i (execSeen f (part (i * slotWidth) slotWidth m) i a))
   unfolding sumWhere
-  sum-end h = ap (sumWhere p) (slots-last n i (drop (i * slotWidth) m) h)
+  sees-next i ss a h =
+      let s = part (i * slotWidth) slotWidth m in (
+        place-next (sameExec f) (exec-empty f) m i (a .exec) ss (h .0),
+        place-next (sameOrder f) (order-empty f) m i (a .order) ss (h .1),
+        ap (λ (k : ℕ). cond (sameOrder f s) (sharesOf s) 0 + k) (h .2),
+      )
 
--- where nothing is found there is nothing to add
-pub none-sum : (p : Slot → Bool) (ss : List Slot) → find p ss ≡ none → sumWhere p ss ≡ 0
-unfolding sumWhere
-none-sum p [] e = refl
-none-sum p (s ∷ ss) e =
-    ⊎-elim
-    (λ (h : p s ≡ true). absurd (let f = find-here p s ss h in let z : _≡_ {A = ℕ} 0 1 = cc in omega arith))
-    (λ (h : p s ≡ false). rw h (zero-add (sumWhere p ss) ∙ none-sum p ss (sym (find-later p s ss h) ∙ e)))
-    (bool-case (p s))
+  -- at slot i, from what was seen after it
+  pub sees-turn : (n i j : ℕ) (s : Slot) (a b r : Seen) → j ≡ i + 1 → i < n → s ≡ part (i * slotWidth) slotWidth m → b ≡ execSeen f s i a → r ≡ orderSeen f s i b
+      → Sees m f (slotsIn (n - j) (drop (j * slotWidth) m)) a → Sees m f (slotsIn (n - i) (drop (i * slotWidth) m)) r
+  sees-turn n i j s a b r ej h es eb er w =
+      let e = er ∙ ap₂ (λ (x : Slot) (y : Seen). orderSeen f x i y) es (eb ∙ ap (λ (x : Slot). execSeen f x i a) es) in
+      let v = subst (λ (k : ℕ). Sees m f (slotsIn (n - k) (drop (k * slotWidth) m)) a) ej w in
+      let t = sees-next i (slotsIn (n - (i + 1)) (drop ((i + 1) * slotWidth) m)) a v in
+      subst (Sees m f (slotsIn (n - i) (drop (i * slotWidth) m))) (sym e)
+      (subst (λ (ss : List Slot). Sees m f ss (orderSeen f (part (i * slotWidth) slotWidth m) i (execSeen f (part (i * slotWidth) slotWidth m) i a))) (sym (slots-next n i m h)) t)
 
--- the sum over slots and more of them
-pub sum-append : (p : Slot → Bool) (ss tt : List Slot) → sumWhere p (ss ++ tt) ≡ sumWhere p ss + sumWhere p tt
-unfolding sumWhere
-sum-append p [] tt = sym (zero-add (sumWhere p tt))
-sum-append p (s ∷ ss) tt =
-    ap (λ (n : ℕ). cond (p s) (sharesOf s) 0 + n) (sum-append p ss tt) ∙ sym (add-assoc (cond (p s) (sharesOf s) 0) (sumWhere p ss) (sumWhere p tt))
+  pub sees-done : (n i : ℕ) (a : Seen) → i ≤ 0 → Sees m f (slotsIn (n - i) (drop (i * slotWidth) m)) a → Sees m f (slotsIn n m) a
+  sees-done n i a h w =
+      let e : i ≡ 0 = omega arith in
+      let v = subst (λ (k : ℕ). Sees m f (slotsIn (n - k) (drop (k * slotWidth) m)) a) e w in
+      subst (λ (ss : List Slot). Sees m f ss a) (sym (slots-first n m)) v
 
--- ---- the ID of the slot at a place of the memory
-module _ (m : List ℕ) (at off : ℕ) (x : List ℕ) (slot-in : at + slotWidth ≤ length m) (id-in : off + idWidth ≤ slotWidth) where
-  pub id-width : (length x ≡ idWidth → ⊥) → hasId off x (part at slotWidth m) ≡ false
-  unfolding hasId
-  id-width h =
-      let s = part at slotWidth m in
-      let l = length-part at slotWidth m slot-in in
-      let n = length-part off idWidth s (omega arith) in
-      and-no-right (isFill s) (same x (part off idWidth s)) (length-differs x (part off idWidth s) (λ e. h (e ∙ n)))
-
-  id-same : length x ≡ idWidth → same x (part off idWidth (part at slotWidth m)) ≡ same (part (at + off) (length x) m) x
-  id-same h =
-      same-sym x (part off idWidth (part at slotWidth m))
-      ∙ ap (λ (l : List ℕ). same l x) (part-part at slotWidth off idWidth m id-in ∙ ap (λ (k : ℕ). part (at + off) k m) (sym h))
-
-  pub id-other : length x ≡ idWidth → same (part (at + off) (length x) m) x ≡ false → hasId off x (part at slotWidth m) ≡ false
-  unfolding hasId
-  id-other h e = and-no-right (isFill (part at slotWidth m)) (same x (part off idWidth (part at slotWidth m))) (id-same h ∙ e)
-
-  pub id-found : length x ≡ idWidth → same (part (at + off) (length x) m) x ≡ true → isFill (drop at m) ≡ hasId off x (part at slotWidth m)
-  unfolding hasId
-  id-found h e =
-      let g : getD (part at slotWidth m) 0 0 ≡ getD (drop at m) 0 0 = getD-take slotWidth (drop at m) 0 0 (omega arith) in
-      sym (ap₂ _&&_ (ap (λ (b : ℕ). eqb b fillMark) g) (id-same h ∙ e) ∙ and-true (isFill (drop at m)))
-    where
-      and-true : (b : Bool) → b && true ≡ b
-      and-true true = refl
-      and-true false = refl
+  -- over all that are counted
+  pub sees-inside : (n count : ℕ) (a : Seen) → length m ≡ bookWidth → n ≡ min count mostFills → Sees m f (slotsIn n m) a → Sees m f (slotsIn count m) a
+  sees-inside n count a l e w =
+      let v = subst (λ (k : ℕ). Sees m f (slotsIn k m) a) e w in (
+        v .0 ∙ find-inside (sameExec f) (exec-empty f) count m l,
+        v .1 ∙ find-inside (sameOrder f) (order-empty f) count m l,
+        v .2 ∙ sum-inside (sameOrder f) (order-empty f) count m l,
+      )

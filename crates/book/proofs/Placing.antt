@@ -1,10 +1,13 @@
--- What the definitions of placement, room and step come to, test by test; known is what a search for the ExecID or the order handed back.
+-- What the definitions of placement, room and step come to, test by test; twin and known are what a walk found for the ExecID and the order.
 --     contents-by     same contents, from what each comparison said
 --     order-new, order-symbol, order-side, order-same     placement by the order
---     place-new, place-already, place-clash     placement
---     room-full, room-few, room-known     room
+--     exec-new, exec-already, exec-clash, placed-by     placement
+--     room-full, room-few, room-known, room-by     room
 --     counted-known, counted-more, counted-full, orders-by     the count of orders
 --     step-by, booking-by     in step, and what a booking changes and answers
+--     admit-is     what becomes of a fill is decided by its placement
+--     admit-clash, admit-already, admit-full, admit-new     and what it is in each case
+--     admitted-clash, admitted-already, admitted-full, admitted-new     what an answer says of placement and room
 use mathlib.Core.Path.{_≡_, refl, sym, ap, ap₂, _∙_}
 use mathlib.Core.List.{List, [], _∷_}
 use mathlib.Core.Option.{Option, some}
@@ -12,18 +15,22 @@ use mathlib.Core.Bool.{Bool, true, false, cond, not, _&&_, _||_}
 use Prim.Native.Nat.{ℕ, suc, _+_, _≤_, _<_, min}
 use native.Mathlib.Omega.{arith}
 use lib.ListN.{length}
-use lib.Dec.{eqb}
+use lib.Dec.{ltb, eqb}
 use borrow.Author.Tests.{lt-ltb, le-ltb, ne-eqb}
 use Rattle.octet.specs.Bytes.{same}
 use Rattle.octet.specs.Maybe.{find, isNone}
+use Rattle.octet.proofs.Cases.{cond-true, cond-false, of-cond}
 use Rattle.answer.specs.Numbers.{fault}
+use Rattle.answer.specs.declared.Fault.{Fault}
 use Rattle.fill.specs.Slot.{Slot, orderOf, sharesOf, priceOf, cumOf, mostFills}
 use Rattle.book.specs.Place.{sameExec, sameOrder, sameSymbol, sameSide, sameContents, byOrder, byExec, place, knownOrder, ordersWith, hasRoom, sumWhere, carried, inStep, mostOrders}
 use Rattle.book.specs.Memory.{slotsIn}
-use Rattle.book.specs.Known.{someSlot, largest, bookingOf}
+use Rattle.book.specs.Known.{someSlot, largest, bookingOf, admitBy, admitOf}
 use Rattle.book.specs.declared.Booking.{Booking}
 use Rattle.book.specs.declared.Placed.{Placed}
 use Rattle.book.specs.declared.Placed.the-variants.{Clash, Already, New}
+use Rattle.book.specs.declared.Admitted.{Admitted}
+use Rattle.book.specs.declared.Admitted.the-variants as admitted
 use Rattle.book.proofs.Slots.{slots-length}
 use Rattle.book.proofs.Finds.{known-none, known-some}
 
@@ -55,53 +62,50 @@ module _ (f k : Slot) where
     order-same e g = sym (known ∙ rw (e, g))
 
 -- ---- placement
-module _ (ss : List Slot) (f k : Slot) (found : someSlot k ≡ find (sameExec f) ss) where
-  placed : place ss f ≡ byExec ss f (someSlot k)
-  unfolding place
-  placed = ap (byExec ss f) (sym found)
-
-  pub place-new : (o : Slot) (r : Placed) → length k ≡ 0 → someSlot o ≡ find (sameOrder f) ss → r ≡ byOrder f (someSlot o) → r ≡ place ss f
+module _ (ss : List Slot) (f k : Slot) where
+  pub exec-new : (o : Slot) (r : Placed) → length k ≡ 0 → someSlot o ≡ find (sameOrder f) ss → r ≡ byOrder f (someSlot o) → r ≡ byExec ss f (someSlot k)
   unfolding byExec
-  place-new o r h eo er = er ∙ ap (byOrder f) eo ∙ sym (placed ∙ ap (byExec ss f) (known-none k h))
+  exec-new o r h eo er = er ∙ ap (byOrder f) eo ∙ sym (ap (byExec ss f) (known-none k h))
 
   module _ (some-bytes : length k ≡ 0 → ⊥) where
-    pub place-already : sameContents f k ≡ true → Already ≡ place ss f
+    pub exec-already : sameContents f k ≡ true → Already ≡ byExec ss f (someSlot k)
     unfolding byExec
-    place-already e = sym (placed ∙ ap (byExec ss f) (known-some k some-bytes) ∙ rw e)
+    exec-already e = sym (ap (byExec ss f) (known-some k some-bytes) ∙ rw e)
 
-    pub place-clash : sameContents f k ≡ false → Clash (fault 5 17) ≡ place ss f
+    pub exec-clash : sameContents f k ≡ false → Clash (fault 5 17) ≡ byExec ss f (someSlot k)
     unfolding byExec
-    place-clash e = sym (placed ∙ ap (byExec ss f) (known-some k some-bytes) ∙ rw e)
+    exec-clash e = sym (ap (byExec ss f) (known-some k some-bytes) ∙ rw e)
 
 -- ---- room
-pub is-known : (k : Slot) (o : Option Slot) → someSlot k ≡ o → not (eqb (length k) 0) ≡ not (isNone o)
-is-known [] o e = ap (λ (p : Option Slot). not (isNone p)) e
-is-known (b ∷ k) o e = rw (ne-eqb (suc (length k)) 0 (λ e. omega arith)) (ap (λ (p : Option Slot). not (isNone p)) e)
+abbrev pub roomOf : ℕ → ℕ → Slot → Bool
+roomOf count orders k = ltb count mostFills && (not (isNone (someSlot k)) || ltb orders mostOrders)
 
-pub known-by : (ss : List Slot) (f k : Slot) → someSlot k ≡ find (sameOrder f) ss → not (eqb (length k) 0) ≡ knownOrder ss f
-unfolding knownOrder
-known-by ss f k e = is-known k (find (sameOrder f) ss) e
+is-known : (k : Slot) → not (eqb (length k) 0) ≡ not (isNone (someSlot k))
+is-known [] = refl
+is-known (b ∷ k) = rw (ne-eqb (suc (length k)) 0 (λ e. omega arith))
 
-module _ (count orders : ℕ) (m : List ℕ) (f : Slot) where
-  pub room-full : mostFills ≤ count → false ≡ hasRoom (slotsIn count m) orders f
-  unfolding hasRoom
-  room-full h = sym (rw (slots-length count m, le-ltb count mostFills h))
+module _ (count orders : ℕ) (k : Slot) where
+  pub room-full : mostFills ≤ count → false ≡ roomOf count orders k
+  room-full h = sym (rw (le-ltb count mostFills h))
 
-  pub room-few : count < mostFills → orders < mostOrders → true ≡ hasRoom (slotsIn count m) orders f
-  unfolding hasRoom
-  room-few h g = sym (rw (slots-length count m, lt-ltb count mostFills h, lt-ltb orders mostOrders g) (or-true (knownOrder (slotsIn count m) f)))
+  pub room-few : count < mostFills → orders < mostOrders → true ≡ roomOf count orders k
+  room-few h g = sym (rw (lt-ltb count mostFills h, lt-ltb orders mostOrders g) (or-true (not (isNone (someSlot k)))))
     where
       or-true : (b : Bool) → b || true ≡ true
       or-true true = refl
       or-true false = refl
 
-  pub room-known : (r : Bool) → count < mostFills → mostOrders ≤ orders → r ≡ knownOrder (slotsIn count m) f → r ≡ hasRoom (slotsIn count m) orders f
-  unfolding hasRoom
-  room-known r h g e = e ∙ sym (rw (slots-length count m, lt-ltb count mostFills h, le-ltb orders mostOrders g) (or-false (knownOrder (slotsIn count m) f)))
+  pub room-known : count < mostFills → mostOrders ≤ orders → not (eqb (length k) 0) ≡ roomOf count orders k
+  room-known h g = is-known k ∙ sym (rw (lt-ltb count mostFills h, le-ltb orders mostOrders g) (or-false (not (isNone (someSlot k)))))
     where
       or-false : (b : Bool) → b || false ≡ b
       or-false true = refl
       or-false false = refl
+
+  pub room-by : (m : List ℕ) (f : Slot) → someSlot k ≡ find (sameOrder f) (slotsIn count m) → roomOf count orders k ≡ hasRoom (slotsIn count m) orders f
+  unfolding hasRoom knownOrder
+  room-by m f e =
+      ap₂ (λ (n : ℕ) (o : Option Slot). ltb n mostFills && (not (isNone o) || ltb orders mostOrders)) (sym (slots-length count m)) e
 
 -- ---- the count of orders
 abbrev pub countedOf : ℕ → Slot → ℕ
@@ -138,3 +142,63 @@ module _ (ss : List Slot) (orders : ℕ) (f k : Slot) (found : someSlot k ≡ fi
   pub booking-by : (n : ℕ) (step : Bool) → n ≡ countedOf orders k → step ≡ inStep ss f → _≡_ {A = Booking} (record { orders = n; stepped = step }) (bookingOf ss orders f)
   unfolding bookingOf
   booking-by n step en es = ap₂ (λ (x : ℕ) (y : Bool). record { orders = x; stepped = y }) (en ∙ orders-by) es
+
+-- ---- placement, from what a walk found
+pub placed-by : (ss : List Slot) (f twin known : Slot) (r : Placed) → someSlot twin ≡ find (sameExec f) ss → someSlot known ≡ find (sameOrder f) ss
+    → ((tt : List Slot) → someSlot known ≡ find (sameOrder f) tt → r ≡ byExec tt f (someSlot twin)) → r ≡ place ss f
+unfolding place
+placed-by ss f twin known r et ek er = er ss ek ∙ ap (byExec ss f) et
+
+-- ---- what becomes of a fill
+module _ (ss : List Slot) (orders : ℕ) (f : Slot) where
+  pub admit-is : admitOf ss orders f ≡ admitBy ss orders f (place ss f)
+  unfolding admitOf
+  admit-is = refl
+
+  -- from where it is placed and whether there is room
+  pub admit-clash : {g : Fault} → place ss f ≡ Clash g → admitOf ss orders f ≡ admitted.Clash g
+  admit-clash e = admit-is ∙ ap (admitBy ss orders f) e
+
+  pub admit-already : place ss f ≡ Already → admitOf ss orders f ≡ admitted.Already
+  admit-already e = admit-is ∙ ap (admitBy ss orders f) e
+
+  pub admit-full : place ss f ≡ New → hasRoom ss orders f ≡ false → admitOf ss orders f ≡ admitted.Full
+  admit-full e h = admit-is ∙ ap (admitBy ss orders f) e ∙ cond-false (hasRoom ss orders f) (admitted.New (bookingOf ss orders f)) admitted.Full h
+
+  pub admit-new : place ss f ≡ New → hasRoom ss orders f ≡ true → admitOf ss orders f ≡ admitted.New (bookingOf ss orders f)
+  admit-new e h = admit-is ∙ ap (admitBy ss orders f) e ∙ cond-true (hasRoom ss orders f) (admitted.New (bookingOf ss orders f)) admitted.Full h
+
+  -- and back
+  by-clash : (p : Placed) {g : Fault} → admitBy ss orders f p ≡ admitted.Clash g → p ≡ Clash g
+  by-clash (Clash h) e = cc
+  by-clash Already e = cc
+  by-clash New {g} e = of-cond (λ (a : Admitted). a ≡ admitted.Clash g → New ≡ Clash g) (hasRoom ss orders f) (λ h x. cc) (λ h x. cc) e
+
+  by-already : (p : Placed) → admitBy ss orders f p ≡ admitted.Already → p ≡ Already
+  by-already (Clash h) e = cc
+  by-already Already e = refl
+  by-already New e = of-cond (λ (a : Admitted). a ≡ admitted.Already → New ≡ Already) (hasRoom ss orders f) (λ h x. cc) (λ h x. cc) e
+
+  by-full : (p : Placed) → admitBy ss orders f p ≡ admitted.Full → (p ≡ New) × (hasRoom ss orders f ≡ false)
+  by-full (Clash h) e = (cc, cc)
+  by-full Already e = (cc, cc)
+  by-full New e = of-cond (λ (a : Admitted). a ≡ admitted.Full → (New ≡ New) × (hasRoom ss orders f ≡ false)) (hasRoom ss orders f) (λ h x. (refl, cc)) (λ h x. (refl, h)) e
+
+  by-new : (p : Placed) {b : Booking} → admitBy ss orders f p ≡ admitted.New b → (p ≡ New) × (hasRoom ss orders f ≡ true) × (b ≡ bookingOf ss orders f)
+  by-new (Clash h) e = (cc, cc, cc)
+  by-new Already e = (cc, cc, cc)
+  by-new New {b} e =
+      of-cond (λ (a : Admitted). a ≡ admitted.New b → (New ≡ New) × (hasRoom ss orders f ≡ true) × (b ≡ bookingOf ss orders f)) (hasRoom ss orders f)
+      (λ h x. (refl, h, cc)) (λ h x. (refl, cc, cc)) e
+
+  pub admitted-clash : {g : Fault} → admitOf ss orders f ≡ admitted.Clash g → place ss f ≡ Clash g
+  admitted-clash e = by-clash (place ss f) (sym admit-is ∙ e)
+
+  pub admitted-already : admitOf ss orders f ≡ admitted.Already → place ss f ≡ Already
+  admitted-already e = by-already (place ss f) (sym admit-is ∙ e)
+
+  pub admitted-full : admitOf ss orders f ≡ admitted.Full → (place ss f ≡ New) × (hasRoom ss orders f ≡ false)
+  admitted-full e = by-full (place ss f) (sym admit-is ∙ e)
+
+  pub admitted-new : {b : Booking} → admitOf ss orders f ≡ admitted.New b → (place ss f ≡ New) × (hasRoom ss orders f ≡ true) × (b ≡ bookingOf ss orders f)
+  admitted-new e = by-new (place ss f) (sym admit-is ∙ e)

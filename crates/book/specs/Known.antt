@@ -1,31 +1,32 @@
--- A search over the slots of a memory: what makes a slot the one that is looked for, and what a search hands back.
-use Prim.Native.Nat.{ℕ, min}
+-- What one walk over the slots of a memory has seen, and what becomes of a fill by it.
+use Prim.Native.Nat.{ℕ, _*_, min}
+use mathlib.Core.Path.{_≡_}
 use mathlib.Core.List.{List, [], _∷_}
 use mathlib.Core.Option.{Option, none, some}
-use mathlib.Core.Bool.{Bool, _&&_}
-use Rattle.octet.specs.Bytes.{same, part}
-use Rattle.fill.specs.Slot.{Slot, widthOf, placeOf, isFill}
-use Rattle.book.specs.Place.{ordersWith, inStep}
+use mathlib.Core.Bool.{cond}
+use Rattle.octet.specs.Bytes.{part}
+use Rattle.octet.specs.Maybe.{find}
+use Rattle.fill.specs.Slot.{Slot, slotWidth}
+use Rattle.book.specs.Place.{sameExec, sameOrder, place, hasRoom, ordersWith, sumWhere, inStep}
+use Rattle.book.specs.declared.Seen.{Seen}
 use Rattle.book.specs.declared.Booking.{Booking}
-
--- where ExecID and OrderID stand in a slot, and their one width
-abbrev pub execAt : ℕ
-execAt = placeOf 0
-
-abbrev pub orderAt : ℕ
-orderAt = placeOf 1
-
-abbrev pub idWidth : ℕ
-idWidth = widthOf 0
-
--- a fill that has x as its ID at that place: of sameExec and sameOrder, what differs
-unfoldable pub hasId : ℕ → List ℕ → Slot → Bool
-hasId off x b = isFill b && same x (part off idWidth b)
+use Rattle.book.specs.declared.Placed.{Placed}
+use Rattle.book.specs.declared.Placed.the-variants.{Clash, Already, New}
+use Rattle.book.specs.declared.Admitted.{Admitted}
+use Rattle.book.specs.declared.Admitted.the-variants as admitted
 
 -- what is found is handed back as its bytes; no bytes say that there is none
 abbrev pub someSlot : Slot → Option Slot
 someSlot [] = none
 someSlot (b ∷ s) = some (b ∷ s)
+
+-- what has been seen of f among slots that stand in the memory m: at the places the first with its ExecID and the first of its order, and the
+-- order's booked sum
+abbrev pub Sees : List ℕ → Slot → List Slot → Seen → Type 0
+Sees m f ss seen =
+    (someSlot (part (seen .exec * slotWidth) slotWidth m) ≡ find (sameExec f) ss)
+    × (someSlot (part (seen .order * slotWidth) slotWidth m) ≡ find (sameOrder f) ss)
+    × (seen .booked ≡ sumWhere (sameOrder f) ss)
 
 -- what a booking changes and answers, by one look at the order. The count of orders stops at the largest number that the code has for it;
 -- there is room for 128 only
@@ -34,3 +35,12 @@ largest = 4294967295
 
 unfoldable pub bookingOf : List Slot → ℕ → Slot → Booking
 bookingOf ss orders f = record { orders = min (ordersWith ss orders f) largest; stepped = inStep ss f }
+
+-- what becomes of a fill: its place among the day's, and of a new one, "then room"
+abbrev pub admitBy : List Slot → ℕ → Slot → Placed → Admitted
+admitBy ss orders f (Clash g) = admitted.Clash g
+admitBy ss orders f Already = admitted.Already
+admitBy ss orders f New = cond (hasRoom ss orders f) (admitted.New (bookingOf ss orders f)) admitted.Full
+
+unfoldable pub admitOf : List Slot → ℕ → Slot → Admitted
+admitOf ss orders f = admitBy ss orders f (place ss f)

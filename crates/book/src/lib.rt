@@ -1,17 +1,22 @@
-// The day's fills, in memory that the caller lends whole, with their counts by value: whether an ExecID or an order is known,
-// placement, room, in step, and one fill more.
+// The day's fills, in memory that the caller lends whole, with their counts by value: what becomes of a fill among them, by one
+// walk over them, and one fill more.
 ghost use mathlib.Core.Path.{_≡_};
-ghost use mathlib.Core.Bool.{cond, not};
+ghost use mathlib.Core.Bool.{cond, not, _&&_, _||_};
+ghost use mathlib.Core.List.{List};
 ghost use Prim.Native.Nat.{_+_, _-_, _*_, _≤_, min};
 ghost use lib.ListN.{length};
+ghost use lib.Dec.{ltb, eqb};
 ghost use Rattle.octet.specs.Bytes.{part};
 ghost use Rattle.octet.specs.Maybe.{find, isNone};
+ghost use Rattle.octet.specs.Places.{wordAt};
 ghost use Rattle.answer.specs.Numbers.{fault};
-ghost use Rattle.fill.specs.Slot.{slotWidth, mostFills, sharesOf, cumOf};
-ghost use Rattle.book.specs.Place.{sameContents, sameExec, sameOrder, byOrder, place, knownOrder, ordersWith, hasRoom, sumWhere, carried, inStep};
+ghost use Rattle.fill.specs.Slot.{Slot, slotWidth, mostFills, bookWidth, execOf, orderOf, sharesOf, cumOf};
+ghost use Rattle.book.specs.Place.{sameContents, sameExec, sameOrder, byOrder, byExec, mostOrders, carried};
 ghost use Rattle.book.specs.Memory.{slotsIn, fitsAfter, appended};
 ghost use Rattle.book.specs.declared.Placed.the-variants.{Clash};
-ghost use Rattle.book.specs.Known.{orderAt, idWidth, hasId, someSlot, largest, bookingOf};
+ghost use Rattle.book.specs.declared.Seen.{Seen};
+ghost use Rattle.book.specs.declared.Booking.{Booking};
+ghost use Rattle.book.specs.Known.{someSlot, largest, Sees, admitOf};
 use answer::Fault;
 use fill::BOOK;
 use fill::FILLS;
@@ -31,6 +36,29 @@ pub struct Booking {
     pub stepped: bool,
 }
 
+// What becomes of a fill among the day's: at odds with one of them, already booked, no room, or new, with what its booking
+// changes and answers.
+pub enum Admitted {
+    Clash(Fault),
+    Already,
+    Full,
+    New(Booking),
+}
+
+// What a walk has seen of a fill: the places of the first slot with its ExecID and of the first of its order, FILLS where there
+// is none, and the order's booked sum.
+struct Seen {
+    exec: usize,
+    order: usize,
+    booked: u64,
+}
+
+// The eight bytes by which an ID is told from others at a glance.
+struct Glance {
+    at: usize,
+    word: u64,
+}
+
 // "512 fills, 128 orders".
 const MOST_ORDERS: u32 = 128;
 
@@ -43,47 +71,115 @@ fn inside(count: usize) -> usize
     if count < FILLS { count } else { FILLS }
 }
 
-// Whether the slot at place `at` is a fill that has x as its ID at `off`. The ID is looked at first: it is what differs.
-fn has_id(m: &[u8], at: usize, off: usize, x: &[u8]) -> bool
-    requires { ⌜ (at + slotWidth ≤ length (now m)) × (off + idWidth ≤ slotWidth) ⌝ }
-    ensures { λ r. ⌜ r ≡ hasId off (now (x .entry)) (part at slotWidth (now (m .entry))) ⌝ }
+fn wide(n: u32) -> u64
+    ensures { λ r. ⌜ (r ≡ n) × (r ≤ largest) ⌝ }
 {
-    if x.len() != ID {
+    n as u64
+}
+
+// Where in the field of an ID the last eight bytes of its text stand. It decides only how soon others are told from it: the IDs
+// of a day share their front.
+fn telling(id: &[u8]) -> usize {
+    let n = octet::byte_at(id, 0) as usize;
+    if n < 8 {
+        return 0;
+    }
+    if ID <= n {
+        return ID - 8;
+    }
+    n - 7
+}
+
+fn glance_at(id: &[u8]) -> Glance
+    ensures { λ r. ⌜ r .word ≡ wordAt (r .at) (now (id .entry)) ⌝ }
+{
+    let at = telling(id);
+    Glance {
+        at,
+        word: octet::word_at(id, at),
+    }
+}
+
+fn same_exec(slot: &[u8], s: &[u8]) -> bool
+    ensures { λ r. ⌜ r ≡ sameExec (now (slot .entry)) (now (s .entry)) ⌝ }
+{
+    if !fill::is_fill(s) {
         return false;
     }
-    if !octet::same_at(m, at + off, x) {
+    octet::same(fill::exec_of(slot), fill::exec_of(s))
+}
+
+fn same_order(slot: &[u8], s: &[u8]) -> bool
+    ensures { λ r. ⌜ r ≡ sameOrder (now (slot .entry)) (now (s .entry)) ⌝ }
+{
+    if !fill::is_fill(s) {
         return false;
     }
-    fill::is_fill(&m[at..])
+    octet::same(fill::order_of(slot), fill::order_of(s))
 }
 
-// The first of n slots that is a fill with x as its ID at `off`; no bytes where there is none. The one search over the slots.
-fn find_slot<'a>(m: &'a [u8], n: usize, off: usize, x: &[u8]) -> &'a [u8]
-    requires { ⌜ (n ≤ mostFills) × (n * slotWidth ≤ length (now m)) × (off + idWidth ≤ slotWidth) ⌝ }
-    ensures { λ r. ⌜ someSlot (now r) ≡ find (hasId off (now (x .entry))) (slotsIn n (now (m .entry))) ⌝ }
+// The slot s at place i is looked at for the ExecID of slot, of which g is the glance.
+fn see_exec(seen: Seen, g: Glance, slot: &[u8], s: &[u8], i: usize) -> Seen
+    requires { ⌜ g .word ≡ wordAt (g .at) (execOf (now slot)) ⌝ }
+    ensures { λ r. ⌜ r ≡ record { exec = cond (sameExec (now (slot .entry)) (now (s .entry))) i (seen .exec); order = seen .order; booked = seen .booked } ⌝ }
 {
-    let mut i = 0;
-    while i < n {
-        let at = i * SLOT;
-        if has_id(m, at, off, x) {
-            return &m[at..at + SLOT];
-        }
-        i += 1;
+    if octet::word_at(fill::exec_of(s), g.at) != g.word {
+        return seen;
     }
-    &m[..0]
+    if !same_exec(slot, s) {
+        return seen;
+    }
+    Seen {
+        exec: i,
+        order: seen.order,
+        booked: seen.booked,
+    }
 }
 
-// The fill with the ExecID of slot, and the first one of its order.
-fn with_exec<'a>(book: &'a [u8; BOOK], count: usize, slot: &[u8]) -> &'a [u8]
-    ensures { λ r. ⌜ someSlot (now r) ≡ find (sameExec (now (slot .entry))) (slotsIn count (now (book .entry))) ⌝ }
+// The same for its order, with LastShares.
+fn see_order(seen: Seen, g: Glance, slot: &[u8], s: &[u8], i: usize) -> Seen
+    requires { ⌜ (g .word ≡ wordAt (g .at) (orderOf (now slot))) × (seen .booked ≤ mostFills * largest) ⌝ }
+    ensures { λ r. ⌜ (r ≡ record { exec = seen .exec; order = cond (sameOrder (now (slot .entry)) (now (s .entry))) i (seen .order); booked = cond (sameOrder (now (slot .entry)) (now (s .entry))) (sharesOf (now (s .entry))) 0 + seen .booked }) × (r .booked ≤ seen .booked + largest) ⌝ }
 {
-    find_slot(book, inside(count), fill::EXEC_AT, fill::exec_of(slot))
+    if octet::word_at(fill::order_of(s), g.at) != g.word {
+        return seen;
+    }
+    if !same_order(slot, s) {
+        return seen;
+    }
+    Seen {
+        exec: seen.exec,
+        order: i,
+        booked: wide(fill::shares_of(s)) + seen.booked,
+    }
 }
 
-fn with_order<'a>(book: &'a [u8; BOOK], count: usize, slot: &[u8]) -> &'a [u8]
-    ensures { λ r. ⌜ someSlot (now r) ≡ find (sameOrder (now (slot .entry))) (slotsIn count (now (book .entry))) ⌝ }
+// The one walk over the slots: n of them, from the last to the first, so that the first that is found is the last that is noted.
+fn walk(m: &[u8], n: usize, slot: &[u8]) -> Seen
+    requires { ⌜ (n ≤ mostFills) × (length (now m) ≡ bookWidth) ⌝ }
+    ensures { λ r. ⌜ Sees (now (m .entry)) (now (slot .entry)) (slotsIn n (now (m .entry))) r × (r .booked ≤ mostFills * largest) ⌝ }
 {
-    find_slot(book, inside(count), fill::ORDER_AT, fill::order_of(slot))
+    let exec = glance_at(fill::exec_of(slot));
+    let order = glance_at(fill::order_of(slot));
+    let mut seen = Seen {
+        exec: FILLS,
+        order: FILLS,
+        booked: 0,
+    };
+    let mut i = n;
+    while 0 < i {
+        i -= 1;
+        let s = &m[i * SLOT..i * SLOT + SLOT];
+        seen = see_order(see_exec(seen, exec, slot, s, i), order, slot, s, i);
+    }
+    seen
+}
+
+// The same of all that are counted.
+fn look(book: &[u8; BOOK], count: usize, slot: &[u8]) -> Seen
+    ensures { λ r. ⌜ Sees (now (book .entry)) (now (slot .entry)) (slotsIn count (now (book .entry))) r × (r .booked ≤ mostFills * largest) ⌝ }
+{
+    walk(book, inside(count), slot)
 }
 
 // "same OrderID, symbol, side, LastShares and price".
@@ -132,30 +228,23 @@ fn by_order(slot: &[u8], known: &[u8]) -> Placed
     Placed::New
 }
 
-// Where a report's fill stands among the day's: "ExecID (17) known today: same .. is already booked ..; anything different is
-// Reject 5 tag 17". Orders are searched only where the ExecID is not known.
-pub fn place(book: &[u8; BOOK], count: usize, slot: &[u8]) -> Placed
-    ensures { λ r. ⌜ r ≡ place (slotsIn count (now (book .entry))) (now (slot .entry)) ⌝ }
+// Where a fill stands among the day's: "ExecID (17) known today: same .. is already booked ..; anything different is Reject 5
+// tag 17". twin is the fill with its ExecID, known the first one of its order; no bytes where there is none.
+fn by_exec(slot: &[u8], twin: &[u8], known: &[u8]) -> Placed
+    ensures { λ r. ⌜ ((ss : List Slot) → someSlot (now (known .entry)) ≡ find (sameOrder (now (slot .entry))) ss → r ≡ byExec ss (now (slot .entry)) (someSlot (now (twin .entry)))) ⌝ }
 {
-    let known = with_exec(book, count, slot);
-    if known.len() == 0 {
-        return by_order(slot, with_order(book, count, slot));
+    if twin.len() == 0 {
+        return by_order(slot, known);
     }
-    if same_contents(slot, known) {
+    if same_contents(slot, twin) {
         return Placed::Already;
     }
     clash(17)
 }
 
-pub fn known_order(book: &[u8; BOOK], count: usize, slot: &[u8]) -> bool
-    ensures { λ r. ⌜ r ≡ knownOrder (slotsIn count (now (book .entry))) (now (slot .entry)) ⌝ }
-{
-    with_order(book, count, slot).len() != 0
-}
-
-// "Then room: 512 fills, 128 orders". The order is searched only where there are 128.
-pub fn has_room(book: &[u8; BOOK], count: usize, orders: u32, slot: &[u8]) -> bool
-    ensures { λ r. ⌜ r ≡ hasRoom (slotsIn count (now (book .entry))) orders (now (slot .entry)) ⌝ }
+// "Then room: 512 fills, 128 orders".
+fn has_room(count: usize, orders: u32, known: &[u8]) -> bool
+    ensures { λ r. ⌜ r ≡ ltb count mostFills && (not (isNone (someSlot (now (known .entry)))) || ltb orders mostOrders) ⌝ }
 {
     if FILLS <= count {
         return false;
@@ -163,7 +252,7 @@ pub fn has_room(book: &[u8; BOOK], count: usize, orders: u32, slot: &[u8]) -> bo
     if orders < MOST_ORDERS {
         return true;
     }
-    known_order(book, count, slot)
+    known.len() != 0
 }
 
 // How many orders there are with one more fill, of which known is the first of its order; the count stops at the largest.
@@ -177,50 +266,6 @@ fn counted(orders: u32, known: &[u8]) -> u32
         return orders + 1;
     }
     orders
-}
-
-pub fn orders_with(book: &[u8; BOOK], count: usize, orders: u32, slot: &[u8]) -> u32
-    ensures { λ r. ⌜ r ≡ min (ordersWith (slotsIn count (now (book .entry))) orders (now (slot .entry))) largest ⌝ }
-{
-    counted(orders, with_order(book, count, slot))
-}
-
-// LastShares of the slot at place `at` where it is a fill with x as its OrderID, else 0.
-fn shares_if(m: &[u8], at: usize, x: &[u8]) -> u32
-    requires { ⌜ at + slotWidth ≤ length (now m) ⌝ }
-    ensures { λ r. ⌜ r ≡ cond (hasId orderAt (now (x .entry)) (part at slotWidth (now (m .entry)))) (sharesOf (part at slotWidth (now (m .entry)))) 0 ⌝ }
-{
-    if has_id(m, at, fill::ORDER_AT, x) {
-        return fill::shares_of(&m[at..at + SLOT]);
-    }
-    0
-}
-
-fn wide(n: u32) -> u64
-    ensures { λ r. ⌜ (r ≡ n) × (r ≤ largest) ⌝ }
-{
-    n as u64
-}
-
-// The sum of LastShares over n slots.
-fn sum_in(m: &[u8], n: usize, x: &[u8]) -> u64
-    requires { ⌜ (n ≤ mostFills) × (n * slotWidth ≤ length (now m)) ⌝ }
-    ensures { λ r. ⌜ (r ≡ sumWhere (hasId orderAt (now (x .entry))) (slotsIn n (now (m .entry)))) × (r ≤ mostFills * largest) ⌝ }
-{
-    let mut sum: u64 = 0;
-    let mut i = 0;
-    while i < n {
-        sum += wide(shares_if(m, i * SLOT, x));
-        i += 1;
-    }
-    sum
-}
-
-// The order's "booked sum".
-pub fn booked_sum(book: &[u8; BOOK], count: usize, slot: &[u8]) -> u64
-    ensures { λ r. ⌜ (r ≡ sumWhere (sameOrder (now (slot .entry))) (slotsIn count (now (book .entry)))) × (r ≤ mostFills * largest) ⌝ }
-{
-    sum_in(book, inside(count), fill::order_of(slot))
 }
 
 // "CumQty less LastShares"; 0 where that is the greater.
@@ -245,41 +290,34 @@ fn carried_in(slot: &[u8], known: &[u8]) -> u32
     carried_of(known)
 }
 
-// The booked sum, which is 0 where the order is not known.
-fn sum_of(book: &[u8; BOOK], count: usize, slot: &[u8], known: &[u8]) -> u64
-    requires { ⌜ someSlot (now known) ≡ find (sameOrder (now slot)) (slotsIn count (now book)) ⌝ }
-    ensures { λ r. ⌜ (r ≡ sumWhere (sameOrder (now (slot .entry))) (slotsIn count (now (book .entry)))) × (r ≤ mostFills * largest) ⌝ }
-{
-    if known.len() == 0 {
-        return 0;
-    }
-    booked_sum(book, count, slot)
-}
-
 // "when CumQty is carried-in plus booked sum, this fill included".
-fn step_of(book: &[u8; BOOK], count: usize, slot: &[u8], known: &[u8]) -> bool
-    requires { ⌜ someSlot (now known) ≡ find (sameOrder (now slot)) (slotsIn count (now book)) ⌝ }
-    ensures { λ r. ⌜ r ≡ inStep (slotsIn count (now (book .entry))) (now (slot .entry)) ⌝ }
+fn in_step(slot: &[u8], known: &[u8], booked: u64) -> bool
+    requires { ⌜ booked ≤ mostFills * largest ⌝ }
+    ensures { λ r. ⌜ r ≡ eqb (cumOf (now (slot .entry))) (carried (now (slot .entry)) (someSlot (now (known .entry))) + (booked + sharesOf (now (slot .entry)))) ⌝ }
 {
     let carried = wide(carried_in(slot, known));
-    let booked = sum_of(book, count, slot, known) + wide(fill::shares_of(slot));
-    wide(fill::cum_of(slot)) == carried + booked
+    let sum = booked + wide(fill::shares_of(slot));
+    wide(fill::cum_of(slot)) == carried + sum
 }
 
-pub fn in_step(book: &[u8; BOOK], count: usize, slot: &[u8]) -> bool
-    ensures { λ r. ⌜ r ≡ inStep (slotsIn count (now (book .entry))) (now (slot .entry)) ⌝ }
+// What becomes of a fill among the day's, by one walk over them.
+pub fn admit(book: &[u8; BOOK], count: usize, orders: u32, slot: &[u8]) -> Admitted
+    ensures { λ r. ⌜ r ≡ admitOf (slotsIn count (now (book .entry))) orders (now (slot .entry)) ⌝ }
 {
-    step_of(book, count, slot, with_order(book, count, slot))
-}
-
-// What a booking changes and answers, by one search for the order: orders_with and in_step.
-pub fn booking_of(book: &[u8; BOOK], count: usize, orders: u32, slot: &[u8]) -> Booking
-    ensures { λ r. ⌜ r ≡ bookingOf (slotsIn count (now (book .entry))) orders (now (slot .entry)) ⌝ }
-{
-    let known = with_order(book, count, slot);
-    Booking {
-        orders: counted(orders, known),
-        stepped: step_of(book, count, slot, known),
+    let seen = look(book, count, slot);
+    let known = slot_at(book, seen.order);
+    match by_exec(slot, slot_at(book, seen.exec), known) {
+        Placed::Clash(f) => Admitted::Clash(f),
+        Placed::Already => Admitted::Already,
+        Placed::New => {
+            if !has_room(count, orders, known) {
+                return Admitted::Full;
+            }
+            Admitted::New(Booking {
+                orders: counted(orders, known),
+                stepped: in_step(slot, known, seen.booked),
+            })
+        }
     }
 }
 

@@ -7,13 +7,14 @@ use native.Mathlib.Nat.{pow-zero, pow-suc, pow-succ', one-le-pow, mul-one, zero-
 use native.Mathlib.Numerals.{add-one}
 use native.Mathlib.Omega.{arith}
 use lib.Arith.{mod-mul, digits-lt, digits-div, digits-mod}
-use lib.Dec.{lit<}
+use lib.Dec.{leb, lit<}
+use borrow.Author.Tests.{le-leb, lt-leb}
 use lib.ListN.{length, take, drop, getD, set, length-reverse}
 use Rattle.octet.specs.Bytes.{between, allIn, same, part}
-use Rattle.octet.specs.Places.{valueOf, placesOf, Order, HighFirst, LowFirst, ordered, numberBytes, numberIn, high, bigEndian}
+use Rattle.octet.specs.Places.{valueOf, placesOf, Order, HighFirst, LowFirst, ordered, numberBytes, numberIn, wordAt, high, bigEndian}
 use Rattle.octet.specs.Splice.{splice}
-use Rattle.octet.proofs.Cases.{and-both, and-make}
-use Rattle.octet.proofs.Lists.{drop-step, part-add, part-part, length-part, same-false, is-between, between-low, between-high, splice-nil, splice-read, splice-front, set-splice, allIn-reverse}
+use Rattle.octet.proofs.Cases.{cond-true, cond-false, and-both, and-make}
+use Rattle.octet.proofs.Lists.{drop-step, part-add, length-part, same-false, is-between, between-low, between-high, splice-nil, splice-read, splice-front, set-splice, allIn-reverse}
 
 -- ---- lengths
 pub places-length : (base nought width n : ℕ) → length (placesOf base nought width n) ≡ width
@@ -200,12 +201,18 @@ low-eight s i h =
     ∙ low-append (part i 4 s) (part (i + 4) 4 s)
     ∙ ap (λ (k : ℕ). numberIn LowFirst (part i 4 s) + numberIn LowFirst (part (i + 4) 4 s) * 256 ^ k) (length-part i 4 s (omega arith))
 
--- bytes at a place that differ from x in some number are not x
-pub number-differs : (order : Order) (m x : List ℕ) (at j w : ℕ) → j + w ≤ length x
-    → (numberIn order (part (at + j) w m) ≡ numberIn order (part j w x) → ⊥) → same (part at (length x) m) x ≡ false
-number-differs order m x at j w h d =
-    same-false (part at (length x) m) x
-    (λ e. d (ap (numberIn order) (sym (part-part at (length x) j w m h) ∙ ap (part j w) e)))
+-- the word at a place, where there are eight bytes and where there are not
+pub word-there : (at : ℕ) (s : List ℕ) → at + 8 ≤ length s → numberIn LowFirst (part at 8 s) ≡ wordAt at s
+unfolding wordAt
+word-there at s h = sym (cond-true (leb (at + 8) (length s)) (numberIn LowFirst (part at 8 s)) 0 (le-leb (at + 8) (length s) h))
+
+pub word-none : (at : ℕ) (s : List ℕ) → length s < at + 8 → 0 ≡ wordAt at s
+unfolding wordAt
+word-none at s h = sym (cond-false (leb (at + 8) (length s)) (numberIn LowFirst (part at 8 s)) 0 (lt-leb (at + 8) (length s) h))
+
+-- bytes that differ in a word are not the same
+pub word-differs : (at : ℕ) (x y : List ℕ) → (wordAt at x ≡ wordAt at y → ⊥) → same x y ≡ false
+word-differs at x y d = same-false x y (λ e. d (ap (wordAt at) e))
 
 -- ---- the loops that read and write bytes
 -- before the first turn of a writing loop, and after a turn: `left` places are still to be written

@@ -4,9 +4,9 @@ use Prim.Native.Nat.{ℕ}
 use mathlib.Core.Path.{_≡_, sym, _∙_}
 use mathlib.Core.List.{List}
 use mathlib.Core.Bool.{Bool, cond, _&&_}
-use lib.ListN.{length, getD}
+use lib.ListN.{getD}
 use Rattle.octet.specs.Bytes.{same, agree, part, untilByte, runIn, allIn}
-use Rattle.octet.specs.Places.{high, bigEndian}
+use Rattle.octet.specs.Places.{wordAt, high, bigEndian}
 use Rattle.octet.specs.Splice.{splice, fitsAt}
 use Rattle.octet.specs.Padded.{fitsWidth, padded, textOf, paddedOk}
 
@@ -34,8 +34,8 @@ module _ (s : List ℕ) where
   pub same-one : (b : List ℕ) {r r′ : Bool} → Answer (same s b) r → Answer (same s b) r′ → r ≡ r′
   same-one b p q = one-answer p q
 
-  pub same-at-one : (at : ℕ) (x : List ℕ) {r r′ : Bool} → Answer (same (part at (length x) s) x) r → Answer (same (part at (length x) s) x) r′ → r ≡ r′
-  same-at-one at x p q = one-answer p q
+  pub word-at-one : (at : ℕ) {r r′ : ℕ} → Answer (wordAt at s) r → Answer (wordAt at s) r′ → r ≡ r′
+  word-at-one at p q = one-answer p q
 
   pub part-one : (at n : ℕ) {r r′ : List ℕ} → Answer (part at n s) r → Answer (part at n s) r′ → r ≡ r′
   part-one at n p q = one-answer p q

@@ -1,6 +1,10 @@
 -- Numbers written in places of one byte each: decimal digits (base 10, byte 48 is nought) and bytes (base 256, byte 0 is nought), in either order.
 use Prim.Native.Nat.{ℕ, zero, suc, _+_, _-_, _*_, _/_, _%_, _^_}
 use mathlib.Core.List.{List, [], _∷_, reverse}
+use mathlib.Core.Bool.{cond}
+use lib.ListN.{length}
+use lib.Dec.{leb}
+use Rattle.octet.specs.Bytes.{part}
 
 -- the number that places write after v, the highest place first; the byte `nought` stands for 0
 abbrev pub valueOf : ℕ → ℕ → ℕ → List ℕ → ℕ
@@ -35,3 +39,7 @@ high width n = numberBytes HighFirst width n
 
 abbrev pub bigEndian : List ℕ → ℕ
 bigEndian s = numberIn HighFirst s
+
+-- the eight bytes at a place as one number, low byte first; 0 where there are not eight
+unfoldable pub wordAt : ℕ → List ℕ → ℕ
+wordAt at s = cond (leb (at + 8) (length s)) (numberIn LowFirst (part at 8 s)) 0

@@ -5,7 +5,7 @@ ghost use Prim.Native.Nat.{_+_, _-_, _*_, _^_, _≤_, _<_};
 ghost use mathlib.Core.Bool.{cond, _&&_};
 ghost use lib.ListN.{length, getD, replicate};
 ghost use Rattle.octet.specs.Bytes.{same, agree, part, untilByte, runIn, allIn};
-ghost use Rattle.octet.specs.Places.{LowFirst, numberIn, high, bigEndian};
+ghost use Rattle.octet.specs.Places.{LowFirst, numberIn, wordAt, high, bigEndian};
 ghost use Rattle.octet.specs.Splice.{splice, fitsAt};
 ghost use Rattle.octet.specs.Padded.{fitsWidth, padded, textOf, paddedOk};
 
@@ -88,37 +88,18 @@ fn word(s: &[u8], i: usize) -> u64
     four(s, i) + four(s, i + 4) * 4294967296
 }
 
-// Whether the bytes of m from place `at` on begin with x, from the front.
-fn begins_at(m: &[u8], at: usize, x: &[u8]) -> bool
-    ensures { λ r. ⌜ r ≡ same (part at (length (now (x .entry))) (now (m .entry))) (now (x .entry)) ⌝ }
+// The number that the eight bytes at a place are, low byte first, and 0 where there are not eight. Texts that differ in it
+// are not the same, and it is read at once.
+pub fn word_at(s: &[u8], at: usize) -> u64
+    ensures { λ r. ⌜ r ≡ wordAt at (now (s .entry)) ⌝ }
 {
-    same(part(m, at, x.len()), x)
-}
-
-// Whether the bytes of m from place `at` on begin with x. Where there is room for two words the last two are compared
-// first, since the identifiers of a day share their front.
-pub fn same_at(m: &[u8], at: usize, x: &[u8]) -> bool
-    ensures { λ r. ⌜ r ≡ same (part at (length (now (x .entry))) (now (m .entry))) (now (x .entry)) ⌝ }
-{
-    let n = x.len();
-    if n < 16 {
-        return begins_at(m, at, x);
+    if s.len() < 8 {
+        return 0;
     }
-    if m.len() < at {
-        return begins_at(m, at, x);
+    if s.len() - 8 < at {
+        return 0;
     }
-    if m.len() - at < n {
-        return begins_at(m, at, x);
-    }
-    let last = n - 8;
-    if word(m, at + last) != word(x, last) {
-        return false;
-    }
-    let before = n - 16;
-    if word(m, at + before) != word(x, before) {
-        return false;
-    }
-    begins_at(m, at, x)
+    word(s, at)
 }
 
 // How many bytes stand before the first b.

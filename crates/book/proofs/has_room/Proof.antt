@@ -6,19 +6,13 @@ use Rattle.book.proofs.has_room.Statement.{statement}
 use Rattle.book.proofs.has_room.Tie as tie
 
 returns : tie.Need-returns
-returns c =
-    let a = c .before .before .args in
-    room-full (a .count) (a .orders) (now (a .book)) (now (a .slot)) (omega arith)
+returns c = let a = c .before .args in room-full (a .count) (a .orders) (now (a .known)) (omega arith)
 
 returns-2 : tie.Need-returns-2
-returns-2 c =
-    let a = c .before .before .before .args in
-    room-few (a .count) (a .orders) (now (a .book)) (now (a .slot)) (omega arith) (omega arith)
+returns-2 c = let a = c .before .before .args in room-few (a .count) (a .orders) (now (a .known)) (omega arith) (omega arith)
 
 returns-3 : tie.Need-returns-3
-returns-3 c =
-    let a = c .before .before .before .before .args in
-    room-known (a .count) (a .orders) (now (a .book)) (now (a .slot)) _ (omega arith) (omega arith) (c .known-order .ensures)
+returns-3 c = let a = c .before .before .args in room-known (a .count) (a .orders) (now (a .known)) (omega arith) (omega arith)
 
 pub has-room-spec : {M : Type 1} → statement M
-has-room-spec = tie.close (tie.spec returns returns-2 (λ c κs. search needs) returns-3)
+has-room-spec = tie.close (tie.spec returns returns-2 returns-3)

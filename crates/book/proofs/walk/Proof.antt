@@ -1,0 +1,76 @@
+use mathlib.Core.Path.{_≡_, ap, _∙_}
+use native.Mathlib.Omega.{arith}
+use denote.Ref.{now}
+use lib.ListN.{drop}
+use Prim.Native.Nat.{_-_, _*_, _≤_}
+use Rattle.octet.specs.Places.{wordAt}
+use Rattle.octet.proofs.Lists.{part-sized}
+use Rattle.fill.specs.Slot.{slotWidth}
+use Rattle.book.specs.Memory.{slotsIn}
+use Rattle.book.specs.Known.{largest, Sees}
+use Rattle.book.specs.declared.Seen.{Seen}
+use Rattle.book.proofs.Finds.{sees-none, sees-turn, sees-done}
+use borrow.Author.Needs.{needs}
+use Rattle.book.proofs.walk.Statement.{statement}
+use Rattle.book.proofs.walk.Tie as tie
+
+abbrev Inv-loop : tie.InvT-loop
+Inv-loop m n slot exec order seen₀ i₀ seen i = Sees m slot (slotsIn (n - i) (drop (i * slotWidth) m)) seen × (seen .booked ≤ (n - i) * largest) × (i ≤ n)
+
+abbrev μ-loop : tie.MeasureT-loop
+μ-loop m n slot exec order seen₀ i₀ seen i = i
+
+loop-holds : tie.Need-loop-holds Inv-loop μ-loop
+loop-holds c =
+    let a = c .before .before .before .before .before .before .args in
+    (sees-none (now (a .m)) (now (a .slot)) (a .n) (omega arith), omega arith, omega arith)
+
+see-exec-requires : tie.Need-see-exec-requires Inv-loop μ-loop
+see-exec-requires c κs = c .before .before .before .before .before .glance-at .ensures ∙ ap (wordAt _) (c .before .before .before .before .before .before .exec-of .ensures)
+
+see-order-requires : tie.Need-see-order-requires Inv-loop μ-loop
+see-order-requires c κs =
+    let h = c .before .before .before in
+    let e : c .see-exec .result .booked ≡ h .loop .seen .booked = ap (λ (x : Seen). x .booked) (c .see-exec .ensures) in
+    (c .before .before .before .before .glance-at2 .ensures ∙ ap (wordAt _) (c .before .before .before .before .before .order-of .ensures), omega arith)
+
+loop-again : tie.Need-loop-again Inv-loop μ-loop
+loop-again c =
+    let h = c .before .before .before .before in
+    let a = c .before .before .before .before .before .before .before .before .before .before .before .args in
+    let i = h .loop .i - 1 in
+    let e : c .before .see-exec .result .booked ≡ h .loop .seen .booked = ap (λ (x : Seen). x .booked) (c .before .see-exec .ensures) in (
+      sees-turn (now (a .m)) (now (a .slot)) (a .n) i (h .loop .i) _ (h .loop .seen) _ _ (omega arith) (omega arith) (part-sized (now (a .m)) (i * slotWidth) slotWidth) (c .before .see-exec .ensures) (c .see-order .ensures .0) (h .loop .inv .0),
+      omega arith,
+      omega arith,
+    )
+
+returns : tie.Need-returns Inv-loop μ-loop
+returns c =
+    let h = c .before in
+    let a = c .before .before .before .before .before .before .before .before .args in
+    (sees-done (now (a .m)) (now (a .slot)) (a .n) (h .loop .i) (h .loop .seen) (omega arith) (h .loop .inv .0), omega arith)
+
+pub walk-spec : {M : Type 1} → statement M
+walk-spec =
+    tie.close
+    (tie.spec
+    Inv-loop
+    μ-loop
+    (λ c κs. search needs)
+    (λ c κs. search needs)
+    (λ c κs. search needs)
+    (λ c κs. search needs)
+    loop-holds
+    (λ c. search needs)
+    (λ c. search needs)
+    (λ c. search needs)
+    (λ c. search needs)
+    (λ c. search needs)
+    (λ c. search needs)
+    (λ c. search needs)
+    see-exec-requires
+    see-order-requires
+    (λ c. search needs)
+    loop-again
+    returns)
