@@ -4,7 +4,7 @@
 --     exec-new, exec-already, exec-clash, placed-by     placement
 --     room-full, room-few, room-known, room-by     room
 --     counted-known, counted-more, counted-full, orders-by     the count of orders
---     step-by, booking-by     in step, and what a booking changes and answers
+--     step-by, booking-by, booking-orders     in step, and what a booking changes and answers
 --     admit-is     what becomes of a fill is decided by its placement
 --     admit-clash, admit-already, admit-full, admit-new     and what it is in each case
 --     admitted-clash, admitted-already, admitted-full, admitted-new     what an answer says of placement and room
@@ -142,6 +142,10 @@ module _ (ss : List Slot) (orders : ℕ) (f k : Slot) (found : someSlot k ≡ fi
   pub booking-by : (n : ℕ) (step : Bool) → n ≡ countedOf orders k → step ≡ inStep ss f → _≡_ {A = Booking} (record { orders = n; stepped = step }) (bookingOf ss orders f)
   unfolding bookingOf
   booking-by n step en es = ap₂ (λ (x : ℕ) (y : Bool). record { orders = x; stepped = y }) (en ∙ orders-by) es
+
+pub booking-orders : (ss : List Slot) (orders : ℕ) (f : Slot) → bookingOf ss orders f .orders ≡ min (ordersWith ss orders f) largest
+unfolding bookingOf
+booking-orders ss orders f = refl
 
 -- ---- placement, from what a walk found
 pub placed-by : (ss : List Slot) (f twin known : Slot) (r : Placed) → someSlot twin ≡ find (sameExec f) ss → someSlot known ≡ find (sameOrder f) ss

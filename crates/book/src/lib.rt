@@ -84,10 +84,8 @@ fn telling(id: &[u8]) -> usize {
     if n < 8 {
         return 0;
     }
-    if ID <= n {
-        return ID - 8;
-    }
-    n - 7
+    let at = n - 7;
+    if at < ID - 8 { at } else { ID - 8 }
 }
 
 fn glance_at(id: &[u8]) -> Glance

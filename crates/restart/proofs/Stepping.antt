@@ -13,7 +13,7 @@ use lib.Seq.{drop-drop}
 use lib.Dec.{leb, ltb, eqb}
 use Rattle.octet.specs.Bytes.{part, joined}
 use Rattle.octet.specs.Splice.{splice}
-use Rattle.octet.proofs.Cases.{cond-true, cond-false, of-cond, or-cases, and-right, bool-case}
+use Rattle.octet.proofs.Cases.{cond-true, cond-false, of-cond, or-cases, and-right, and-no-left, bool-case}
 use Rattle.octet.proofs.Lists.{drop-done, splice-in}
 use Rattle.fill.specs.Slot.{Slot, slotLawful, slotWidth, mostFills, bookWidth}
 use Rattle.book.specs.Memory.{slotsIn, appended}
@@ -28,7 +28,7 @@ use Rattle.restart.specs.declared.Step.{Step}
 use Rattle.restart.specs.declared.Step.the-variants as step
 use Rattle.restart.specs.declared.Restarted.the-variants as restarted
 use Rattle.restart.specs.Restart.{Outcome, Again, Unlawful, restart, countsOf, told, bookAfter}
-use Rattle.restart.specs.Steps.{keptIn, bare, stepNote, stepRead, memNote, memRead, HasSlots}
+use Rattle.restart.specs.Steps.{keptIn, bare, isNext, stepNote, stepRead, memNote, memRead, HasSlots}
 use Rattle.restart.proofs.Going.{go, restart-go, go-end, go-part, go-unknown, go-bad, go-on, some-taken, GivenIn}
 
 -- ---- lawful, test by test
@@ -37,11 +37,6 @@ module _ (q : Kept) where
       → a && b && c && d && f ≡ lawful q (Leaves e o)
   unfolding lawful
   leaves-by e o ea eb ec ed ef = cc
-
-  pub books-by : (e o : ℕ) (s : Slot) {a b c d : Bool} → eqb e (q .e + 1) ≡ a → leb e top ≡ b → eqb o (q .o) ≡ c → bookable (q .slots) (q .orders) s ≡ d
-      → a && b && c && d ≡ lawful q (Books e o s)
-  unfolding lawful
-  books-by e o s ea eb ec ed = cc
 
   pub marks-by : (n : ℕ) {a b : Bool} → ltb (q .acked) n ≡ a → leb n (length (q .slots)) ≡ b → a && b ≡ lawful q (Marks n)
   unfolding lawful
@@ -63,6 +58,19 @@ pub bookable-by : (ss : List Slot) (orders : ℕ) (s : Slot) {a b c : Bool} → 
     → a && b && c ≡ bookable ss orders s
 unfolding bookable
 bookable-by ss orders s ea eb ec = cc
+
+-- an F note whose numbers are not the next, and one whose numbers are
+pub next-by : (m : Counts) (e o : ℕ) {a b c : Bool} → eqb e (m .e + 1) ≡ a → leb e top ≡ b → eqb o (m .o) ≡ c → a && b && c ≡ isNext m e o
+next-by m e o ea eb ec = cc
+
+module _ (m : Counts) (mem : List ℕ) (e o : ℕ) (s : Slot) where
+  pub books-out : isNext m e o ≡ false → false ≡ lawful (keptIn m mem) (Books e o s)
+  unfolding lawful
+  books-out h = sym (and-no-left (isNext m e o) (bookable (slotsIn (m .fills) mem) (m .orders) s) h)
+
+  pub books-next : {d : Bool} → isNext m e o ≡ true → d ≡ bookable (slotsIn (m .fills) mem) (m .orders) s → d ≡ lawful (keptIn m mem) (Books e o s)
+  unfolding lawful
+  books-next h f = f ∙ sym (ap (λ (a : Bool). a && bookable (slotsIn (m .fills) mem) (m .orders) s) h)
 
 -- ---- counts
 abbrev counts : ℕ → ℕ → ℕ → ℕ → ℕ → Counts

@@ -1,13 +1,13 @@
 -- One note, as a restart takes it: the counts by value and the slots in memory, and what each is after the note.
-use Prim.Native.Nat.{ℕ}
+use Prim.Native.Nat.{ℕ, _+_}
 use mathlib.Core.List.{List, []}
-use mathlib.Core.Bool.{Bool, cond, _||_}
+use mathlib.Core.Bool.{Bool, cond, _&&_, _||_}
 use mathlib.Core.Path.{_≡_}
 use lib.ListN.{length}
-use lib.Dec.{ltb}
+use lib.Dec.{leb, ltb, eqb}
 use Rattle.book.specs.Memory.{slotsIn, appended}
 use Rattle.note.specs.Notes.{Note, Leaves, Books, Marks, Clears, Reading, Whole, Part, Unknown}
-use Rattle.note.specs.Kept.{Kept, lawful, after}
+use Rattle.note.specs.Kept.{Kept, top, lawful, after}
 use Rattle.restart.specs.Restart.{Outcome, Again, Unlawful, countsOf}
 use Rattle.restart.specs.declared.Counts.{Counts}
 use Rattle.restart.specs.declared.Step.{Step}
@@ -24,6 +24,10 @@ bare m = keptIn m []
 -- "S raises E or O"
 abbrev pub raised : Counts → ℕ → ℕ → Bool
 raised m e o = ltb (m .e) e || ltb (m .o) o
+
+-- "F has E one up within that, O the same"
+abbrev pub isNext : Counts → ℕ → ℕ → Bool
+isNext m e o = eqb e (m .e + 1) && leb e top && eqb o (m .o)
 
 unfoldable pub stepNote : Kept → Note → Step
 stepNote q note = cond (lawful q note) (step.On (countsOf (after q note))) step.Bad

@@ -4,13 +4,11 @@ ghost use mathlib.Core.Path.{_≡_};
 ghost use Prim.Native.Nat.{_+_, _≤_};
 ghost use lib.ListN.{length};
 ghost use Rattle.fill.specs.Slot.{bookWidth};
-ghost use Rattle.book.specs.Memory.{slotsIn};
-ghost use Rattle.book.specs.Place.{place, isNew};
 ghost use Rattle.note.specs.Notes.{Leaves, Books, Marks, Clears, readNote};
-ghost use Rattle.note.specs.Kept.{bookable, lawful, empty};
+ghost use Rattle.note.specs.Kept.{lawful, empty};
 ghost use Rattle.restart.specs.Restart.{restart, told, bookAfter, countsOf};
-ghost use Rattle.restart.specs.Steps.{keptIn, bare, raised, stepNote, stepRead, memNote, memRead, HasSlots};
-use book::Placed;
+ghost use Rattle.restart.specs.Steps.{keptIn, bare, raised, isNext, stepNote, stepRead, memNote, memRead, HasSlots};
+use book::Admitted;
 use fill::BOOK;
 use fill::SLOT;
 use note::Read;
@@ -132,33 +130,9 @@ fn wide(n: u32) -> usize
     n as usize
 }
 
-fn is_new(mem: &[u8; BOOK], fills: usize, slot: &[u8]) -> bool
-    ensures { λ r. ⌜ r ≡ isNew (place (slotsIn fills (now (mem .entry))) (now (slot .entry))) ⌝ }
-{
-    match book::place(mem, fills, slot) {
-        Placed::Clash(_) => false,
-        Placed::Already => false,
-        Placed::New => true,
-    }
-}
-
-// "a report that would be booked".
-fn is_bookable(mem: &[u8; BOOK], m: Counts, slot: &[u8]) -> bool
-    ensures { λ r. ⌜ r ≡ bookable (slotsIn (m .fills) (now (mem .entry))) (m .orders) (now (slot .entry)) ⌝ }
-{
-    let fills = wide(m.fills);
-    if !fill::is_lawful(slot) {
-        return false;
-    }
-    if !is_new(mem, fills, slot) {
-        return false;
-    }
-    book::has_room(mem, fills, m.orders, slot)
-}
-
-// "F has E one up within that, O the same, and a report that would be booked".
-fn books_lawful(mem: &[u8; BOOK], m: Counts, e: u32, o: u32, slot: &[u8]) -> bool
-    ensures { λ r. ⌜ r ≡ lawful (keptIn m (now (mem .entry))) (Books e o (now (slot .entry))) ⌝ }
+// "F has E one up within that, O the same".
+fn is_next(m: Counts, e: u32, o: u32) -> bool
+    ensures { λ r. ⌜ r ≡ isNext m e o ⌝ }
 {
     if e < 1 {
         return false;
@@ -169,29 +143,35 @@ fn books_lawful(mem: &[u8; BOOK], m: Counts, e: u32, o: u32, slot: &[u8]) -> boo
     if TOP < e {
         return false;
     }
-    if o != m.o {
-        return false;
-    }
-    is_bookable(mem, m, slot)
+    o == m.o
 }
 
-// The slot is written after the last one.
+// "F has E one up within that, O the same, and a report that would be booked". The slot is written after the last one.
 fn step_books(mem: &mut [u8; BOOK], m: Counts, e: u32, o: u32, slot: &[u8]) -> Step
     ensures { λ r. ⌜ (r ≡ stepNote (keptIn m (now (mem .entry))) (Books e o (now (slot .entry)))) × (now (mem .exit) ≡ memNote (now (mem .entry)) (keptIn m (now (mem .entry))) (Books e o (now (slot .entry)))) ⌝ }
 {
-    if !books_lawful(mem, m, e, o, slot) {
+    let fills = wide(m.fills);
+    if !is_next(m, e, o) {
         return Step::Bad;
     }
-    let fills = wide(m.fills);
-    let orders = book::orders_with(mem, fills, m.orders, slot);
-    book::append(mem, fills, slot);
-    Step::On(Counts {
-        e,
-        o,
-        fills: m.fills + 1,
-        orders,
-        acked: m.acked,
-    })
+    if !fill::is_lawful(slot) {
+        return Step::Bad;
+    }
+    match book::admit(mem, fills, m.orders, slot) {
+        Admitted::Clash(_) => Step::Bad,
+        Admitted::Already => Step::Bad,
+        Admitted::Full => Step::Bad,
+        Admitted::New(booking) => {
+            book::append(mem, fills, slot);
+            Step::On(Counts {
+                e,
+                o,
+                fills: m.fills + 1,
+                orders: booking.orders,
+                acked: m.acked,
+            })
+        }
+    }
 }
 
 // What the first note of s does.
