@@ -2,6 +2,7 @@
 --     find-inside, sum-inside     past the end of the memory there is nothing to find and nothing to add
 --     sees-none, sees-turn, sees-done, sees-inside     a walk from the last slot to the first: before it, at a slot, after it, and over all that are
 --     counted
+--     passes-none, passes-turn     slots that it passes over
 --     exec-by, order-by     the two predicates, test by test
 --     exec-glance, order-glance     a slot that differs in one word is another
 --     exec-other, exec-found, order-other, order-found     what is seen with one slot more
@@ -24,8 +25,9 @@ use Rattle.octet.proofs.Places.{word-differs}
 use Rattle.fill.specs.Slot.{Slot, slotWidth, mostFills, bookWidth, isFill, execOf, orderOf, sharesOf}
 use Rattle.book.specs.Place.{sameExec, sameOrder, sumWhere}
 use Rattle.book.specs.Memory.{slotsIn}
-use Rattle.book.specs.Known.{someSlot, Sees}
+use Rattle.book.specs.Known.{someSlot, Sees, Passes}
 use Rattle.book.specs.declared.Seen.{Seen}
+use Rattle.book.specs.declared.Glance.{Glance}
 use Rattle.book.proofs.Slots.{slots-first, slots-next, slots-last}
 
 -- no predicate accepts an empty slot
@@ -196,3 +198,16 @@ module _ (m : List ℕ) (f : Slot) where
         v .1 ∙ find-inside (sameOrder f) (order-empty f) count m l,
         v .2 ∙ sum-inside (sameOrder f) (order-empty f) count m l,
       )
+
+-- slots that are passed over: none, and one more, whose words are others
+module _ (m : List ℕ) (exec order : Glance) (n : ℕ) where
+  pub passes-none : Passes m exec order n n
+  passes-none f all seen h x y w = w
+
+  pub passes-turn : (i j : ℕ) (s : Slot) → j ≡ i + 1 → j ≤ n → s ≡ part (i * slotWidth) slotWidth m → (wordAt (exec .at) (execOf s) ≡ exec .word → ⊥)
+      → (wordAt (order .at) (orderOf s) ≡ order .word → ⊥) → Passes m exec order n j → Passes m exec order n i
+  passes-turn i j s ej l es dx dy p f all a h x y w =
+      sees-turn m f all i j s a a a ej (omega arith) es
+      (exec-other f s i a (exec-glance f s (exec .at) (exec .word) x dx))
+      (order-other f s i a (order-glance f s (order .at) (order .word) y dy))
+      (p f all a h x y w)

@@ -5,7 +5,7 @@ use lib.ListN.{drop}
 use Prim.Native.Nat.{_-_, _*_, _≤_}
 use Rattle.octet.specs.Places.{wordAt}
 use Rattle.octet.proofs.Lists.{part-sized}
-use Rattle.fill.specs.Slot.{slotWidth}
+use Rattle.fill.specs.Slot.{slotWidth, mostFills}
 use Rattle.book.specs.Memory.{slotsIn}
 use Rattle.book.specs.Known.{largest, Sees}
 use Rattle.book.specs.declared.Seen.{Seen}
@@ -22,33 +22,48 @@ abbrev μ-loop : tie.MeasureT-loop
 
 loop-holds : tie.Need-loop-holds Inv-loop μ-loop
 loop-holds c =
-    let a = c .before .before .before .before .before .before .args in
-    (sees-none (now (a .m)) (now (a .slot)) (a .n) (omega arith), omega arith, omega arith)
+    let a = c .before .before .before .before .before .before .before .args in
+    let x = c .before .before .before .glance-at .ensures ∙ ap (wordAt _) (c .before .before .before .before .exec-of .ensures) in
+    let y = c .before .glance-at2 .ensures ∙ ap (wordAt _) (c .before .before .order-of .ensures) in
+    let f = now (a .slot) in
+    (c .pass-over .ensures .1 f (a .n) (record { exec = mostFills; order = mostFills; booked = 0 }) (omega arith) x y (sees-none (now (a .m)) f (a .n) (omega arith)), omega arith, omega arith)
 
 see-exec-requires : tie.Need-see-exec-requires Inv-loop μ-loop
-see-exec-requires c κs = c .before .before .before .before .before .glance-at .ensures ∙ ap (wordAt _) (c .before .before .before .before .before .before .exec-of .ensures)
+see-exec-requires c κs = c .before .before .before .before .before .before .glance-at .ensures ∙ ap (wordAt _) (c .before .before .before .before .before .before .before .exec-of .ensures)
 
 see-order-requires : tie.Need-see-order-requires Inv-loop μ-loop
 see-order-requires c κs =
     let h = c .before .before .before in
+    let a = c .before .before .before .before .before .before .before .before .before .before .before .args in
+    let few : a .n ≤ mostFills = c .before .before .before .before .before .before .before .before .before .before .before .pre .0 in
+    let most : h .loop .seen .booked ≤ (a .n - h .loop .i) * largest = h .loop .inv .1 in
+    let left : h .loop .i ≤ a .n = h .loop .inv .2 in
     let e : c .see-exec .result .booked ≡ h .loop .seen .booked = ap (λ (x : Seen). x .booked) (c .see-exec .ensures) in
-    (c .before .before .before .before .glance-at2 .ensures ∙ ap (wordAt _) (c .before .before .before .before .before .order-of .ensures), omega arith)
+    (c .before .before .before .before .before .glance-at2 .ensures ∙ ap (wordAt _) (c .before .before .before .before .before .before .order-of .ensures), omega arith)
 
 loop-again : tie.Need-loop-again Inv-loop μ-loop
 loop-again c =
-    let h = c .before .before .before .before in
-    let a = c .before .before .before .before .before .before .before .before .before .before .before .args in
+    let h = c .before .before .before .before .before in
+    let a = c .before .before .before .before .before .before .before .before .before .before .before .before .before .args in
     let i = h .loop .i - 1 in
-    let e : c .before .see-exec .result .booked ≡ h .loop .seen .booked = ap (λ (x : Seen). x .booked) (c .before .see-exec .ensures) in (
-      sees-turn (now (a .m)) (now (a .slot)) (a .n) i (h .loop .i) _ (h .loop .seen) _ _ (omega arith) (omega arith) (part-sized (now (a .m)) (i * slotWidth) slotWidth) (c .before .see-exec .ensures) (c .see-order .ensures .0) (h .loop .inv .0),
-      omega arith,
-      omega arith,
-    )
+    let few : a .n ≤ mostFills = c .before .before .before .before .before .before .before .before .before .before .before .before .before .pre .0 in
+    let most : h .loop .seen .booked ≤ (a .n - h .loop .i) * largest = h .loop .inv .1 in
+    let left : h .loop .i ≤ a .n = h .loop .inv .2 in
+    let m = now (a .m) in
+    let f = now (a .slot) in
+    let x = c .before .before .before .before .before .before .before .before .before .glance-at .ensures ∙ ap (wordAt _) (c .before .before .before .before .before .before .before .before .before .before .exec-of .ensures) in
+    let y = c .before .before .before .before .before .before .before .glance-at2 .ensures ∙ ap (wordAt _) (c .before .before .before .before .before .before .before .before .order-of .ensures) in
+    let e : c .before .before .see-exec .result .booked ≡ h .loop .seen .booked = ap (λ (x : Seen). x .booked) (c .before .before .see-exec .ensures) in
+    let turn = sees-turn m f (a .n) i (h .loop .i) _ (h .loop .seen) _ _ (omega arith) (omega arith) (part-sized m (i * slotWidth) slotWidth) (c .before .before .see-exec .ensures) (c .before .see-order .ensures .0) (h .loop .inv .0) in
+    (c .pass-over2 .ensures .1 f (a .n) (c .before .see-order .result) (omega arith) x y turn, omega arith, omega arith)
 
 returns : tie.Need-returns Inv-loop μ-loop
 returns c =
     let h = c .before in
-    let a = c .before .before .before .before .before .before .before .before .args in
+    let a = c .before .before .before .before .before .before .before .before .before .args in
+    let few : a .n ≤ mostFills = c .before .before .before .before .before .before .before .before .before .pre .0 in
+    let most : h .loop .seen .booked ≤ (a .n - h .loop .i) * largest = h .loop .inv .1 in
+    let left : h .loop .i ≤ a .n = h .loop .inv .2 in
     (sees-done (now (a .m)) (now (a .slot)) (a .n) (h .loop .i) (h .loop .seen) (omega arith) (h .loop .inv .0), omega arith)
 
 pub walk-spec : {M : Type 1} → statement M
@@ -57,6 +72,7 @@ walk-spec =
     (tie.spec
     Inv-loop
     μ-loop
+    (λ c κs. search needs)
     (λ c κs. search needs)
     (λ c κs. search needs)
     (λ c κs. search needs)
@@ -71,6 +87,7 @@ walk-spec =
     (λ c. search needs)
     see-exec-requires
     see-order-requires
+    (λ c κs. search needs)
     (λ c. search needs)
     loop-again
     returns)
