@@ -9,7 +9,7 @@
 --     known-none, known-some     what a search hands back
 use mathlib.Core.Path.{_≡_, refl, sym, ap, ap₂, _∙_, subst}
 use mathlib.Core.List.{List, [], _∷_}
-use mathlib.Core.Option.{Option, none, some}
+use mathlib.Core.Option.{none, some}
 use mathlib.Core.Bool.{Bool, true, false, cond, _&&_}
 use mathlib.Core.Logic.{⊎-elim}
 use Prim.Native.Nat.{ℕ, zero, suc, _+_, _-_, _*_, _≤_, _<_, min}
@@ -25,7 +25,7 @@ use Rattle.octet.proofs.Places.{word-differs}
 use Rattle.fill.specs.Slot.{Slot, slotWidth, mostFills, bookWidth, isFill, execOf, orderOf, sharesOf}
 use Rattle.book.specs.Place.{sameExec, sameOrder, sumWhere}
 use Rattle.book.specs.Memory.{slotsIn}
-use Rattle.book.specs.Known.{someSlot, Sees, Passes}
+use Rattle.book.specs.Seeing.{someSlot, Sees, Passes}
 use Rattle.book.specs.declared.Seen.{Seen}
 use Rattle.book.specs.declared.Glance.{Glance}
 use Rattle.book.proofs.Slots.{slots-first, slots-next, slots-last}

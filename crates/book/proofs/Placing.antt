@@ -25,7 +25,8 @@ use Rattle.answer.specs.declared.Fault.{Fault}
 use Rattle.fill.specs.Slot.{Slot, orderOf, sharesOf, priceOf, cumOf, mostFills}
 use Rattle.book.specs.Place.{sameExec, sameOrder, sameSymbol, sameSide, sameContents, byOrder, byExec, place, knownOrder, ordersWith, hasRoom, sumWhere, carried, inStep, mostOrders}
 use Rattle.book.specs.Memory.{slotsIn}
-use Rattle.book.specs.Known.{someSlot, largest, bookingOf, admitBy, admitOf}
+use Rattle.book.specs.Known.{largest, bookingOf, admitBy, admitOf}
+use Rattle.book.specs.Seeing.{someSlot}
 use Rattle.book.specs.declared.Booking.{Booking}
 use Rattle.book.specs.declared.Placed.{Placed}
 use Rattle.book.specs.declared.Placed.the-variants.{Clash, Already, New}

@@ -1,3 +1,4 @@
 pub mod Place
 pub mod Memory
 pub mod Known
+pub mod Seeing

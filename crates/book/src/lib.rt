@@ -14,9 +14,8 @@ ghost use Rattle.fill.specs.Slot.{Slot, slotWidth, mostFills, bookWidth, execOf
 ghost use Rattle.book.specs.Place.{sameContents, sameExec, sameOrder, byOrder, byExec, mostOrders, carried};
 ghost use Rattle.book.specs.Memory.{slotsIn, fitsAfter, appended};
 ghost use Rattle.book.specs.declared.Placed.the-variants.{Clash};
-ghost use Rattle.book.specs.declared.Seen.{Seen};
-ghost use Rattle.book.specs.declared.Booking.{Booking};
-ghost use Rattle.book.specs.Known.{someSlot, largest, Sees, Passes, admitOf};
+ghost use Rattle.book.specs.Known.{largest, admitOf};
+ghost use Rattle.book.specs.Seeing.{someSlot, Sees, Passes};
 use answer::Fault;
 use fill::BOOK;
 use fill::FILLS;

@@ -1,12 +1,10 @@
-use mathlib.Core.Path.{_≡_, refl, sym, ap, ap₂, _∙_}
-use mathlib.Core.Bool.{Bool}
-use Prim.Native.Nat.{ℕ}
+use mathlib.Core.Path.{_≡_, refl, sym, ap, _∙_}
 use denote.Ref.{now}
 use borrow.Author.Tests.{not-true, not-false}
 use Rattle.octet.specs.Maybe.{find}
 use Rattle.book.specs.Place.{sameOrder, place}
 use Rattle.book.specs.Memory.{slotsIn}
-use Rattle.book.specs.Known.{someSlot}
+use Rattle.book.specs.Seeing.{someSlot}
 use Rattle.book.specs.declared.Admitted.the-variants as admitted
 use Rattle.book.proofs.Placing.{placed-by, room-by, booking-by, step-by, admit-clash, admit-already, admit-full, admit-new}
 use borrow.Author.Needs.{needs}

@@ -1,7 +1,6 @@
 use native.Mathlib.Omega.{arith}
 use denote.Ref.{now}
 use Rattle.book.proofs.Placing.{room-full, room-few, room-known}
-use borrow.Author.Needs.{needs}
 use Rattle.book.proofs.has_room.Statement.{statement}
 use Rattle.book.proofs.has_room.Tie as tie
 

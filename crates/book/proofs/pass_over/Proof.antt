@@ -1,11 +1,11 @@
-use mathlib.Core.Path.{sym, ap, _∙_}
+use mathlib.Core.Path.{ap, _∙_}
 use native.Mathlib.Omega.{arith}
 use denote.Ref.{now}
 use Prim.Native.Nat.{_-_, _*_, _≤_}
 use Rattle.octet.specs.Places.{wordAt}
 use Rattle.octet.proofs.Lists.{part-sized}
 use Rattle.fill.specs.Slot.{slotWidth}
-use Rattle.book.specs.Known.{Passes}
+use Rattle.book.specs.Seeing.{Passes}
 use Rattle.book.proofs.Finds.{passes-none, passes-turn}
 use borrow.Author.Needs.{needs}
 use Rattle.book.proofs.pass_over.Statement.{statement}

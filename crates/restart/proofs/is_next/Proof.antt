@@ -1,11 +1,9 @@
 -- `restart::is_next` meets its contract, test by test.
-use borrow.Author.Needs.{needs}
 use mathlib.Core.Path.{refl}
-use Prim.Native.Nat.{_+_, _-_}
+use Prim.Native.Nat.{_+_}
 use native.Mathlib.Omega.{arith}
 use borrow.Author.Tests.{le-leb, lt-leb, eq-eqb, ne-eqb}
 use Rattle.note.specs.Kept.{top}
-use Rattle.restart.specs.Restart.{restart}
 use Rattle.restart.proofs.Stepping.{next-by}
 use Rattle.restart.proofs.is_next.Statement.{statement}
 use Rattle.restart.proofs.is_next.Tie as tie

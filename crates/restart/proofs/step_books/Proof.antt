@@ -11,7 +11,6 @@ use Rattle.book.specs.Known.{admitOf}
 use Rattle.book.specs.declared.Booking.{Booking}
 use Rattle.book.proofs.Placing.{admitted-clash, admitted-already, admitted-full, admitted-new, booking-orders}
 use Rattle.note.specs.Notes.{Books}
-use Rattle.restart.specs.Restart.{restart}
 use Rattle.restart.specs.Steps.{keptIn}
 use Rattle.restart.proofs.Stepping.{bookable-by, books-out, books-next, step-no, step-yes, on-books, mem-no, mem-yes, fills-few, orders-fit}
 use Rattle.restart.proofs.step_books.Statement.{statement}

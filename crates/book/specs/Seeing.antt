@@ -1,0 +1,33 @@
+-- What the walk over the slots of a memory finds, as the private functions say it to one another: no public promise cites this.
+use Prim.Native.Nat.{ℕ, _-_, _*_, _≤_}
+use mathlib.Core.Path.{_≡_}
+use mathlib.Core.List.{List, [], _∷_}
+use mathlib.Core.Option.{Option, none, some}
+use lib.ListN.{drop}
+use Rattle.octet.specs.Bytes.{part}
+use Rattle.octet.specs.Maybe.{find}
+use Rattle.octet.specs.Places.{wordAt}
+use Rattle.fill.specs.Slot.{Slot, slotWidth, execOf, orderOf}
+use Rattle.book.specs.Place.{sameExec, sameOrder, sumWhere}
+use Rattle.book.specs.Memory.{slotsIn}
+use Rattle.book.specs.declared.Seen.{Seen}
+use Rattle.book.specs.declared.Glance.{Glance}
+
+-- what is found is handed back as its bytes; no bytes say that there is none
+abbrev pub someSlot : Slot → Option Slot
+someSlot [] = none
+someSlot (b ∷ s) = some (b ∷ s)
+
+-- what has been seen of f among slots that stand in the memory m: at the places the first with its ExecID and the first of its order, and the
+-- order's booked sum
+abbrev pub Sees : List ℕ → Slot → List Slot → Seen → Type 0
+Sees m f ss seen =
+    (someSlot (part (seen .exec * slotWidth) slotWidth m) ≡ find (sameExec f) ss)
+    × (someSlot (part (seen .order * slotWidth) slotWidth m) ≡ find (sameOrder f) ss)
+    × (seen .booked ≡ sumWhere (sameOrder f) ss)
+
+-- slots r to n of the memory may be passed over, for any fill of which these are the glances: what was seen after n is all that is seen after r
+abbrev pub Passes : List ℕ → Glance → Glance → ℕ → ℕ → Type 0
+Passes m exec order n r =
+    (f : Slot) (all : ℕ) (seen : Seen) → n ≤ all → exec .word ≡ wordAt (exec .at) (execOf f) → order .word ≡ wordAt (order .at) (orderOf f)
+    → Sees m f (slotsIn (all - n) (drop (n * slotWidth) m)) seen → Sees m f (slotsIn (all - r) (drop (r * slotWidth) m)) seen
