@@ -1,4 +1,5 @@
 pub mod Slots
+pub mod Words
 pub mod Finds
 pub mod Placing
 pub mod Unique

@@ -6,7 +6,7 @@ ghost use mathlib.Core.List.{List};
 ghost use Prim.Native.Nat.{_+_, _-_, _*_, _≤_, min};
 ghost use lib.ListN.{length};
 ghost use lib.Dec.{ltb, eqb};
-ghost use Rattle.octet.specs.Bytes.{part};
+ghost use Rattle.octet.specs.Bytes.{same, part};
 ghost use Rattle.octet.specs.Maybe.{find, isNone};
 ghost use Rattle.octet.specs.Places.{wordAt};
 ghost use Rattle.answer.specs.Numbers.{fault};
@@ -97,13 +97,32 @@ fn glance_at(id: &[u8]) -> Glance
     }
 }
 
+// Whether two fields of an ID hold the same bytes: three words say it of fields of full width.
+fn same_id(x: &[u8], y: &[u8]) -> bool
+    ensures { λ r. ⌜ r ≡ same (now (x .entry)) (now (y .entry)) ⌝ }
+{
+    if x.len() != ID {
+        return octet::same(x, y);
+    }
+    if y.len() != ID {
+        return octet::same(x, y);
+    }
+    if octet::word_at(x, 0) != octet::word_at(y, 0) {
+        return false;
+    }
+    if octet::word_at(x, 8) != octet::word_at(y, 8) {
+        return false;
+    }
+    octet::word_at(x, ID - 8) == octet::word_at(y, ID - 8)
+}
+
 fn same_exec(slot: &[u8], s: &[u8]) -> bool
     ensures { λ r. ⌜ r ≡ sameExec (now (slot .entry)) (now (s .entry)) ⌝ }
 {
     if !fill::is_fill(s) {
         return false;
     }
-    octet::same(fill::exec_of(slot), fill::exec_of(s))
+    same_id(fill::exec_of(slot), fill::exec_of(s))
 }
 
 fn same_order(slot: &[u8], s: &[u8]) -> bool
@@ -112,7 +131,7 @@ fn same_order(slot: &[u8], s: &[u8]) -> bool
     if !fill::is_fill(s) {
         return false;
     }
-    octet::same(fill::order_of(slot), fill::order_of(s))
+    same_id(fill::order_of(slot), fill::order_of(s))
 }
 
 // The slot s at place i is looked at for the ExecID of slot, of which g is the glance.

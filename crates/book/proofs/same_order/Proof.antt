@@ -15,7 +15,7 @@ returns c =
 returns-2 : tie.Need-returns-2
 returns-2 c =
     let a = c .before .before .before .before .before .before .before .args in
-    c .same .ensures ∙ ap₂ same (c .before .before .order-of .ensures) (c .before .order-of2 .ensures)
+    c .same-id .ensures ∙ ap₂ same (c .before .before .order-of .ensures) (c .before .order-of2 .ensures)
     ∙ order-by (now (a .slot)) (now (a .s)) (sym (c .before .before .before .before .is-fill .ensures) ∙ not-false _ (c .before .before .before .if1 .left)) refl
 
 pub same-order-spec : {M : Type 1} → statement M
