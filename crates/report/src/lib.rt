@@ -1,6 +1,5 @@
 // An execution report that passed the table: its values, the four rules, and the slot of its fill.
 use answer::Fault;
-use field::Index;
 use field::TAGS;
 use field::count_at;
 use field::value_at;
@@ -16,7 +15,7 @@ ghost use Rattle.answer.specs.Numbers.{fault};
 ghost use Rattle.field.specs.Index.{valueIn};
 ghost use Rattle.report.specs.declared.Reported.the-variants.{Faulty};
 ghost use Rattle.report.specs.Report.{reportOf, reportedOf, slotFor};
-ghost use Rattle.report.specs.Indexed.{textAtPlaces, textBy, asideIn, reportBy, sumsOf, toldBy};
+ghost use Rattle.report.specs.Indexed.{textAtPlaces, asideIn, sumsOf, toldBy};
 
 // What a report says: it breaks a rule, it is set aside, or it tells of a fill.
 pub enum Reported {
@@ -156,7 +155,7 @@ fn judged<'a>(sums: Sums, leaves: u32, kind: &'a [u8], status: &'a [u8], aside: 
 }
 
 // What a report says, by the lists of its body's index.
-fn reported_at<'a>(
+pub fn reported_at<'a>(
     body: &[u8],
     start: &'a [usize; TAGS],
     len: &'a [usize; TAGS],
@@ -176,15 +175,8 @@ fn reported_at<'a>(
     )
 }
 
-// The same by the whole index.
-pub fn reported_in(body: &[u8], ix: Index) -> Reported
-    ensures { λ r. ⌜ r ≡ reportedOf (reportBy (now (body .entry)) ix) ⌝ }
-{
-    reported_at(body, &ix.start, &ix.len, &ix.count)
-}
-
 // The slot of the fill that a report tells of, by the lists of its body's index.
-fn slot_at<'a>(body: &[u8], start: &'a [usize; TAGS], len: &'a [usize; TAGS]) -> [u8; SLOT]
+pub fn slot_at<'a>(body: &[u8], start: &'a [usize; TAGS], len: &'a [usize; TAGS]) -> [u8; SLOT]
     ensures { λ r. ⌜ r ≡ slotFor (textAtPlaces (now (body .entry)) (now (start .entry)) (now (len .entry))) ⌝ }
 {
     let sums = sums_at(body, start, len);
@@ -201,11 +193,4 @@ fn slot_at<'a>(body: &[u8], start: &'a [usize; TAGS], len: &'a [usize; TAGS]) ->
         sums.cum,
         value_at(body, start, len, TIME),
     )
-}
-
-// The same by the whole index.
-pub fn slot_in(body: &[u8], ix: Index) -> [u8; SLOT]
-    ensures { λ r. ⌜ r ≡ slotFor (textBy (now (body .entry)) ix) ⌝ }
-{
-    slot_at(body, &ix.start, &ix.len)
 }

@@ -1,12 +1,18 @@
 -- Each step of the judging, by what was read off a message: the answer of the definition, for the code's returns.
 use mathlib.Core.Path.{_≡_, refl, sym, ap, _∙_}
 use mathlib.Core.Logic.{_⊎_, inl, inr}
+use mathlib.Core.List.{List}
 use mathlib.Core.Option.{Option, none, some}
 use mathlib.Core.Bool.{Bool, true, false, cond}
 use Prim.Native.Nat.{ℕ, _≤_, _<_}
+use native.Mathlib.Omega.{arith}
 use lib.Dec.{leb, eqb}
 use borrow.Author.Tests.{eq-eqb, ne-eqb, lt-ltb, le-ltb, le-leb, lt-leb}
 use Rattle.octet.proofs.Cases.{and-no-right}
+use Rattle.value.specs.Readers.{numberRead}
+use Rattle.value.specs.declared.Number.{Number}
+use Rattle.value.specs.declared.Number.the-variants as number
+use Rattle.value.proofs.Numbers.{number-good}
 use Rattle.answer.specs.Numbers.{isKind}
 use Rattle.answer.specs.declared.Phase.{Phase}
 use Rattle.answer.specs.declared.Phase.the-variants as phase
@@ -18,11 +24,18 @@ use Rattle.wire.specs.declared.Say.the-variants as say
 use Rattle.wire.specs.declared.Reply.{Reply}
 use Rattle.wire.specs.declared.Reply.the-variants.{Nothing}
 use Rattle.session.specs.Session.{judged, asking}
-use Rattle.session.specs.Judging.{Facts, ended, rejectedEnded, welcomed, logon, step3, resetMode, rejectedIf, gapFill, effect, inTurn, belowIf, due, answered, gapReply, gap, step4, byPhase, step2, step1, judgedBy}
+use Rattle.session.specs.Judging.{Facts, numberIf, ended, rejectedEnded, welcomed, logon, step3, resetMode, rejectedIf, gapFill, effect, inTurn, belowIf, due, answered, gapReply, gap, step4, byPhase, step2, step1, judgedBy}
+use Rattle.session.specs.Indexed.{numbered}
 use Rattle.session.specs.declared.Session.{Session}
 use Rattle.session.specs.declared.Judged.{Judged}
 use Rattle.session.specs.declared.Verdict.{Verdict}
 use Rattle.session.specs.declared.Verdict.the-variants.{Settled}
+
+-- a number that was read is not 0
+pub number-read : (v : List ℕ) {r : Number} {n : ℕ} → r ≡ numberRead 1 999999998 v → r ≡ number.Value n → numbered n ≡ numberIf (numberRead 1 999999998 v)
+number-read v {n = n} p e =
+    let least = number-good 1 999999998 v n (sym p ∙ e) .least in
+    rw (sym p ∙ e, ne-eqb n 0 (λ z. absurd (omega (arith, least, z))))
 
 module _ (s : Session) (m : Facts) where
   -- ---- steps 1 and 2

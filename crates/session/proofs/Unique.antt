@@ -1,9 +1,16 @@
 -- No second answer satisfies a promise of this crate: each is an equation with its definition.
-use mathlib.Core.Path.{_≡_, sym, _∙_}
+use mathlib.Core.Path.{_≡_, refl, sym, ap, _∙_}
 use mathlib.Core.List.{List}
+use mathlib.Core.Option.{none, some}
 use mathlib.Core.Bool.{Bool}
 use Prim.Native.Nat.{ℕ}
-use Rattle.field.specs.declared.Index.{Index}
+use lib.Dec.{eqb}
+use borrow.Author.Tests.{eqb-true}
+use Rattle.octet.specs.Maybe.{unless}
+use Rattle.octet.proofs.Cases.{of-cond, ap-cond}
+use Rattle.field.specs.declared.Scan.{Scan}
+use Rattle.table.specs.Indexed.{indexFrom}
+use Rattle.table.proofs.Unique.{fault-of-once}
 use Rattle.answer.specs.declared.Setup.{Setup}
 use Rattle.answer.specs.declared.Fault.{Fault}
 use Rattle.answer.specs.declared.Outcome.{Outcome}
@@ -11,9 +18,10 @@ use Rattle.wire.specs.declared.Say.{Say}
 use Rattle.wire.specs.declared.Reply.{Reply}
 use Rattle.session.specs.Session.{fresh, isOff, isOn, says, mayCall, ownCall, lineLost}
 use Rattle.session.specs.Judging.{rejected, passed, judgedBy, wordTag}
-use Rattle.session.specs.Indexed.{factsBy}
+use Rattle.session.specs.Indexed.{factsBy, numbered, facts}
 use Rattle.session.specs.declared.Own.{Own}
 use Rattle.session.specs.declared.Session.{Session}
+use Rattle.session.specs.declared.Findings.{Findings}
 use Rattle.session.specs.declared.Judged.{Judged}
 use Rattle.session.specs.declared.Verdict.{Verdict}
 
@@ -38,9 +46,32 @@ asked-once s answer which r r′ p q = p ∙ sym q
 pub says-once : (what : Own) (r r′ : Say) → r ≡ says what → r′ ≡ says what → r ≡ r′
 says-once what r r′ p q = p ∙ sym q
 
-pub judge-once : (setup : Setup) (s : Session) (body : List ℕ) (ix : Index) (r r′ : Verdict)
-    → r ≡ judgedBy s (factsBy setup s body ix) → r′ ≡ judgedBy s (factsBy setup s body ix) → r ≡ r′
-judge-once setup s body ix r r′ p q = p ∙ sym q
+-- what was read is known by its facts: 0 is no number, and a judgement is known by its fault
+pub numbered-once : (n k : ℕ) → numbered n ≡ numbered k → n ≡ k
+numbered-once n k e = sym (back n) ∙ ap (unless 0) e ∙ back k
+  where
+    back : (n : ℕ) → unless 0 (numbered n) ≡ n
+    back n = ap-cond (unless 0) (eqb n 0) none (some n) ∙ of-cond (λ (x : ℕ). x ≡ n) (eqb n 0) (λ z. sym (eqb-true n 0 z)) (λ z. refl)
+
+pub facts-once : (r r′ : Findings) → facts r ≡ facts r′ → r ≡ r′
+facts-once r r′ e = λ i. record {
+  kind = e i .kind;
+  seq = numbered-once (r .seq) (r′ .seq) (λ j. e j .seq) i;
+  ids = fault-of-once (r .ids) (r′ .ids) (λ j. e j .ids) i;
+  fault = fault-of-once (r .fault) (r′ .fault) (λ j. e j .fault) i;
+  again = e i .again;
+  filling = e i .filling;
+  from = e i .from;
+  last = e i .upTo;
+  to = e i .to;
+}
+
+pub findings-of-once : (setup : Setup) (s : Session) (body : List ℕ) (scan : Scan) (start len count : List ℕ) (r r′ : Findings)
+    → facts r ≡ factsBy setup s body (indexFrom scan start len count) → facts r′ ≡ factsBy setup s body (indexFrom scan start len count) → r ≡ r′
+findings-of-once setup s body scan start len count r r′ p q = facts-once r r′ (p ∙ sym q)
+
+pub judge-once : (s : Session) (m : Findings) (r r′ : Verdict) → r ≡ judgedBy s (facts m) → r′ ≡ judgedBy s (facts m) → r ≡ r′
+judge-once s m r r′ p q = p ∙ sym q
 
 pub rejected-once : (s : Session) (n : ℕ) (f : Fault) (r r′ : Judged) → r ≡ rejected s n f → r′ ≡ rejected s n f → r ≡ r′
 rejected-once s n f r r′ p q = p ∙ sym q

@@ -7,10 +7,12 @@ use lib.Dec.{eqb}
 use Rattle.field.specs.Index.{valueIn, countIn}
 use Rattle.field.specs.declared.Index.{Index}
 use Rattle.table.specs.Rows.{kindOf}
+use Rattle.table.specs.Steps.{faultOf}
 use Rattle.table.specs.Indexed.{numberIn, faultBy}
 use Rattle.answer.specs.declared.Setup.{Setup}
 use Rattle.answer.specs.declared.Kind.{Kind}
 use Rattle.session.specs.declared.Session.{Session}
+use Rattle.session.specs.declared.Findings.{Findings}
 use Rattle.session.specs.Judging.{Facts, factsOf}
 
 -- the first field of a tag, by the lists of an index
@@ -28,3 +30,22 @@ unfoldable pub factsBy : Setup → Session → List ℕ → Index → Facts
 factsBy setup s body ix =
     factsOf setup (kindBy setup body ix) (faultBy setup (s .phase) (s .o) body ix) (λ (tag : ℕ). fieldBy body ix tag)
     (λ (tag : ℕ). numberIn body (ix .start) (ix .len) tag)
+
+-- ---- what was read, as the code hands it on
+
+-- a number, 0 for none
+abbrev pub numbered : ℕ → Option ℕ
+numbered n = cond (eqb n 0) none (some n)
+
+abbrev pub facts : Findings → Facts
+facts m = record {
+  kind = m .kind;
+  seq = numbered (m .seq);
+  ids = faultOf (m .ids);
+  fault = faultOf (m .fault);
+  again = m .again;
+  filling = m .filling;
+  from = m .from;
+  upTo = m .last;
+  to = m .to;
+}

@@ -5,33 +5,31 @@ use answer::Kind;
 use answer::Outcome;
 use answer::Phase;
 use answer::Setup;
-use field::Index;
+use field::Scan;
 use field::TAGS;
 use table::Judgement;
 use value::Number;
 use wire::Reply;
 use wire::Say;
 ghost use mathlib.Core.Path.{_≡_};
-ghost use mathlib.Core.Bool.{true, false, cond, _&&_, not};
+ghost use mathlib.Core.Bool.{true, false, cond};
 ghost use mathlib.Core.Option.{some};
 ghost use Rattle.octet.specs.Bytes.{same};
-ghost use Rattle.octet.specs.Maybe.{isNone};
 ghost use Rattle.field.specs.Index.{valueIn};
 ghost use Rattle.table.specs.Rows.{kindOf};
-ghost use Rattle.table.specs.Indexed.{numberIn, faultBy};
+ghost use Rattle.table.specs.Indexed.{indexFrom};
 ghost use Rattle.field.specs.Pieces.{isThat};
 ghost use Rattle.table.specs.Steps.{faultOf};
 ghost use Rattle.answer.specs.Setup.{idOf};
 ghost use Rattle.answer.specs.Numbers.{fault, counted, kindNumber, isKind};
-ghost use Rattle.answer.specs.declared.Kind.the-variants as kinds;
 ghost use Rattle.answer.specs.declared.Outcome.the-variants as outcome;
 ghost use Rattle.wire.specs.declared.Say.the-variants as say;
 ghost use Rattle.wire.specs.declared.Reply.the-variants.{Nothing, One};
 ghost use Rattle.session.specs.declared.Own.the-variants as own;
 ghost use Rattle.session.specs.declared.Verdict.the-variants.{Settled};
 ghost use Rattle.session.specs.Session.{fresh, into, expecting, asking, raised, sending, judged, isOff, isOn, isIn, says, mayCall, ownCall, lineLost};
-ghost use Rattle.session.specs.Judging.{numberIf, seqGiven, idsGiven, yes, ended, rejectedEnded, welcomed, step3, rejectedTo, rejected, rejectedIf, passed, heard, filledTo, movedTo, loggedOut, effect, inTurn, belowIf, dueBy, gapReply, gap, step4, byPhase, judgedBy, echoes, wordTag};
-ghost use Rattle.session.specs.Indexed.{fieldIn, fieldBy, kindBy, factsBy};
+ghost use Rattle.session.specs.Judging.{seqGiven, idsGiven, yes, ended, rejectedEnded, welcomed, step3, resetMode, rejectedTo, rejected, rejectedIf, passed, heard, filledTo, gapFill, movedTo, moved, loggedOut, effect, inTurn, belowIf, dueBy, answered, gapReply, gap, step4, byPhase, judgedBy, echoes, wordTag};
+ghost use Rattle.session.specs.Indexed.{fieldIn, factsBy, numbered, facts};
 
 // The phase, the number expected, the next to send, and the E that a Resend Request was last written for (0 for none).
 pub struct Session {
@@ -60,6 +58,20 @@ pub struct Judged {
 pub enum Verdict {
     Settled(Judged),
     Report(u32),
+}
+
+// What the steps read off a message: its type, its number (0 where it has none), which ID is not the agreed one, what is wrong by steps 5 to 7,
+// `43=Y`, `123=Y`, and the numbers of 7, 16 and 36.
+pub struct Findings {
+    pub kind: Kind,
+    pub seq: u32,
+    pub ids: Judgement,
+    pub fault: Judgement,
+    pub again: bool,
+    pub filling: bool,
+    pub from: u32,
+    pub last: u32,
+    pub to: u32,
 }
 
 // The last number of four bytes, where E and O stop. Refusal 4 and step 1 come long before.
@@ -510,19 +522,23 @@ fn is_yes<'a>(
     octet::same(b"Y", field::value_at(body, start, len, tag))
 }
 
-// Step 1: "The first `34=` field is 1 to 999,999,998, 1 to 9 digits".
+// Step 1: "The first `34=` field is 1 to 999,999,998, 1 to 9 digits"; 0 where it is not.
 fn sequence<'a>(
     body: &[u8],
     start: &'a [usize; TAGS],
     len: &'a [usize; TAGS],
     count: &'a [u8; TAGS],
-) -> Number
-    ensures { λ r. ⌜ numberIf r ≡ seqGiven (fieldIn (now (body .entry)) (now (start .entry)) (now (len .entry)) (now (count .entry)) 34) ⌝ }
+) -> u32
+    ensures { λ r. ⌜ numbered r ≡ seqGiven (fieldIn (now (body .entry)) (now (start .entry)) (now (len .entry)) (now (count .entry)) 34) ⌝ }
 {
     if field::count_at(body, count, NUMBER) == 0 {
-        return Number::OutOfRange;
+        return 0;
     }
-    value::read_number(field::value_at(body, start, len, NUMBER), 1, LAST_SEQUENCE)
+    match value::read_number(field::value_at(body, start, len, NUMBER), 1, LAST_SEQUENCE) {
+        Number::Value(n) => n,
+        Number::BadForm(_) => 0,
+        Number::OutOfRange => 0,
+    }
 }
 
 // Step 2: "The first `49=` and then `56=` are the agreed IDs. Else Reject 9 naming that tag".
@@ -563,74 +579,112 @@ fn kind_in<'a>(setup: Setup, body: &[u8], start: &'a [usize; TAGS], len: &'a [us
     table::kind_of(setup, field::value_at(body, start, len, TYPE))
 }
 
-// "type 4 without `123=Y`": reset mode.
-fn is_reset(kind: Kind, body: &[u8], ix: Index) -> bool
-    ensures { λ r. ⌜ r ≡ isKind kind kinds.Reset && not (yes (fieldBy (now (body .entry)) ix 123)) ⌝ }
+// All of it, once: the steps below look at nothing else.
+pub fn findings_of<'a>(
+    setup: Setup,
+    s: Session,
+    body: &[u8],
+    scan: Scan,
+    start: &'a [usize; TAGS],
+    len: &'a [usize; TAGS],
+    count: &'a [u8; TAGS],
+) -> Findings
+    ensures { λ r. ⌜ facts r ≡ factsBy setup s (now (body .entry)) (indexFrom scan (now (start .entry)) (now (len .entry)) (now (count .entry))) ⌝ }
 {
+    let phase = s.phase;
+    Findings {
+        kind: kind_in(setup, body, start, len),
+        seq: sequence(body, start, len, count),
+        ids: ids_fault(setup, body, start, len, count),
+        fault: table::fault_in(setup, phase, s.o, body, scan, start, len, count),
+        again: is_yes(body, start, len, count, AGAIN),
+        filling: is_yes(body, start, len, count, FILLING),
+        from: table::number_at(body, start, len, FROM),
+        last: table::number_at(body, start, len, UP_TO),
+        to: table::number_at(body, start, len, TO),
+    }
+}
+
+// "type 4 without `123=Y`": reset mode.
+fn is_reset(m: Findings) -> bool
+    ensures { λ r. ⌜ r ≡ resetMode (facts m) ⌝ }
+{
+    let kind = m.kind;
     if is_kind(kind, Kind::Reset) {
-        return !is_yes(body, &ix.start, &ix.len, &ix.count, FILLING);
+        return !m.filling;
     }
     false
+}
+
+// "A faultless Resend Request above E is answered first".
+fn is_answered(m: Findings) -> bool
+    ensures { λ r. ⌜ r ≡ answered (facts m) ⌝ }
+{
+    let kind = m.kind;
+    if !is_kind(kind, Kind::Resend) {
+        return false;
+    }
+    let fault = m.fault;
+    match fault {
+        Judgement::Faulty(_) => false,
+        Judgement::Fine => true,
+    }
 }
 
 // ---- the judging of a framed message, step by step
 
 impl Session {
     // Step 3, in phase 1: "type A numbered E or more, else Logout, ended. Faulty by steps 5 to 7: Reject and Logout, ended."
-    fn judge_logon(self, n: u32, setup: Setup, body: &[u8], ix: Index) -> Judged
-        ensures { λ r. ⌜ r ≡ step3 self n (factsBy setup self (now (body .entry)) ix) ⌝ }
+    fn judge_logon(self, n: u32, m: Findings) -> Judged
+        ensures { λ r. ⌜ r ≡ step3 self n (facts m) ⌝ }
     {
-        let kind = kind_in(setup, body, &ix.start, &ix.len);
+        let kind = m.kind;
         if !is_kind(kind, Kind::Logon) {
             return self.ended();
         }
         if n < self.e {
             return self.ended();
         }
-        let phase = self.phase;
-        match table::fault_in(setup, phase, self.o, body, ix) {
+        let fault = m.fault;
+        match fault {
             Judgement::Faulty(f) => self.rejected_ended(n, f),
             Judgement::Fine => self.welcomed(n),
         }
     }
 
     // The gap fill that answers a Resend Request.
-    fn gap_fill(self, body: &[u8], ix: Index) -> Say
-        ensures { λ r. ⌜ r ≡ say.GapFill (numberIn (now (body .entry)) (ix .start) (ix .len) 7) (filledTo (self .o) (numberIn (now (body .entry)) (ix .start) (ix .len) 16)) ⌝ }
+    fn gap_fill(self, m: Findings) -> Say
+        ensures { λ r. ⌜ r ≡ gapFill self (facts m) ⌝ }
     {
-        let from = table::number_at(body, &ix.start, &ix.len, FROM);
-        let last = table::number_at(body, &ix.start, &ix.len, UP_TO);
-        Say::GapFill(from, filled_to(self.o, last))
+        Say::GapFill(m.from, filled_to(self.o, m.last))
     }
 
     // "gap fill".
-    fn filled(self, body: &[u8], ix: Index) -> Verdict
-        ensures { λ r. ⌜ r ≡ Settled (judged outcome.Filled (One (say.GapFill (numberIn (now (body .entry)) (ix .start) (ix .len) 7) (filledTo (self .o) (numberIn (now (body .entry)) (ix .start) (ix .len) 16)))) (raised self)) ⌝ }
+    fn filled(self, m: Findings) -> Verdict
+        ensures { λ r. ⌜ r ≡ Settled (judged outcome.Filled (One (gapFill self (facts m))) (raised self)) ⌝ }
     {
-        let fill = self.gap_fill(body, ix);
+        let fill = self.gap_fill(m);
         Verdict::Settled(self.raised().settled(Outcome::Filled, Reply::One(fill)))
     }
 
     // "E to 36's".
-    fn reset(self, n: u32, kind: Kind, body: &[u8], ix: Index) -> Verdict
-        ensures { λ r. ⌜ r ≡ Settled (movedTo (numberIn (now (body .entry)) (ix .start) (ix .len) 36) (isKind kind kinds.Reset && not (yes (fieldBy (now (body .entry)) ix 123))) self n) ⌝ }
+    fn reset(self, n: u32, m: Findings) -> Verdict
+        ensures { λ r. ⌜ r ≡ Settled (moved self n (facts m)) ⌝ }
     {
-        let reset = is_reset(kind, body, ix);
-        let to = table::number_at(body, &ix.start, &ix.len, TO);
-        Verdict::Settled(self.moved(to, reset, n))
+        Verdict::Settled(self.moved(m.to, is_reset(m), n))
     }
 
     // The table's column "Effect". Of a report the book is to be asked.
-    fn effect(self, n: u32, setup: Setup, body: &[u8], ix: Index) -> Verdict
-        ensures { λ r. ⌜ r ≡ effect self n (factsBy setup self (now (body .entry)) ix) (kindBy setup (now (body .entry)) ix) ⌝ }
+    fn effect(self, n: u32, m: Findings) -> Verdict
+        ensures { λ r. ⌜ r ≡ effect self n (facts m) (m .kind) ⌝ }
     {
-        let kind = kind_in(setup, body, &ix.start, &ix.len);
+        let kind = m.kind;
         match kind {
             Kind::Logon => self.heard(),
             Kind::Heartbeat => self.heard(),
             Kind::Test => self.echoed(),
-            Kind::Resend => self.filled(body, ix),
-            Kind::Reset => self.reset(n, kind, body, ix),
+            Kind::Resend => self.filled(m),
+            Kind::Reset => self.reset(n, m),
             Kind::Logout => self.logged_out(),
             Kind::Report => Verdict::Report(n),
             Kind::Other => self.heard(),
@@ -639,44 +693,24 @@ impl Session {
     }
 
     // Steps 5 to 7, and the effect of a faultless message.
-    fn in_turn(self, n: u32, setup: Setup, body: &[u8], ix: Index) -> Verdict
-        ensures { λ r. ⌜ r ≡ inTurn self n (factsBy setup self (now (body .entry)) ix) (faultBy setup (self .phase) (self .o) (now (body .entry)) ix) ⌝ }
+    fn in_turn(self, n: u32, m: Findings) -> Verdict
+        ensures { λ r. ⌜ r ≡ inTurn self n (facts m) (faultOf (m .fault)) ⌝ }
     {
-        let phase = self.phase;
-        match table::fault_in(setup, phase, self.o, body, ix) {
-            Judgement::Faulty(f) => {
-                let kind = kind_in(setup, body, &ix.start, &ix.len);
-                let reset = is_reset(kind, body, ix);
-                Verdict::Settled(self.rejected_if(reset, n, f))
-            }
-            Judgement::Fine => self.effect(n, setup, body, ix),
-        }
-    }
-
-    // "A faultless Resend Request above E is answered first".
-    fn is_answered(self, kind: Kind, setup: Setup, body: &[u8], ix: Index) -> bool
-        ensures { λ r. ⌜ r ≡ isKind kind kinds.Resend && isNone (faultBy setup (self .phase) (self .o) (now (body .entry)) ix) ⌝ }
-    {
-        if !is_kind(kind, Kind::Resend) {
-            return false;
-        }
-        let phase = self.phase;
-        match table::fault_in(setup, phase, self.o, body, ix) {
-            Judgement::Faulty(_) => false,
-            Judgement::Fine => true,
+        let fault = m.fault;
+        match fault {
+            Judgement::Faulty(f) => Verdict::Settled(self.rejected_if(is_reset(m), n, f)),
+            Judgement::Fine => self.effect(n, m),
         }
     }
 
     // "Above E: a gap, not applied, answered by a Resend Request (7=E, 16=0)".
-    fn gap(self, setup: Setup, body: &[u8], ix: Index) -> Judged
-        ensures { λ r. ⌜ r ≡ gap self (factsBy setup self (now (body .entry)) ix) ⌝ }
+    fn gap(self, m: Findings) -> Judged
+        ensures { λ r. ⌜ r ≡ gap self (facts m) ⌝ }
     {
-        let kind = kind_in(setup, body, &ix.start, &ix.len);
-        let again = is_yes(body, &ix.start, &ix.len, &ix.count, AGAIN);
-        let due = self.is_due(again, kind);
-        if self.is_answered(kind, setup, body, ix) {
-            let fill = self.gap_fill(body, ix);
-            return self.gap_filled(fill, due);
+        let kind = m.kind;
+        let due = self.is_due(m.again, kind);
+        if is_answered(m) {
+            return self.gap_filled(self.gap_fill(m), due);
         }
         self.gap_seen(due)
     }
@@ -703,48 +737,47 @@ impl Session {
     }
 
     // Step 4, in phase 2 or 4: "type 4 without `123=Y` ignores its number".
-    fn judge_turn(self, n: u32, setup: Setup, body: &[u8], ix: Index) -> Verdict
-        ensures { λ r. ⌜ r ≡ step4 self n (factsBy setup self (now (body .entry)) ix) ⌝ }
+    fn judge_turn(self, n: u32, m: Findings) -> Verdict
+        ensures { λ r. ⌜ r ≡ step4 self n (facts m) ⌝ }
     {
-        let kind = kind_in(setup, body, &ix.start, &ix.len);
-        if is_reset(kind, body, ix) {
-            return self.in_turn(n, setup, body, ix);
+        if is_reset(m) {
+            return self.in_turn(n, m);
         }
         if n == self.e {
-            return self.in_turn(n, setup, body, ix);
+            return self.in_turn(n, m);
         }
         if n < self.e {
-            let again = is_yes(body, &ix.start, &ix.len, &ix.count, AGAIN);
-            return Verdict::Settled(self.below(again));
+            return Verdict::Settled(self.below(m.again));
         }
-        Verdict::Settled(self.gap(setup, body, ix))
+        Verdict::Settled(self.gap(m))
     }
 
     // Steps 3 and 4, by phase. A message in phase 0 or 3 is refused before it comes to this.
-    fn by_phase(self, n: u32, setup: Setup, body: &[u8], ix: Index) -> Verdict
-        ensures { λ r. ⌜ r ≡ byPhase (self .phase) self n (factsBy setup self (now (body .entry)) ix) ⌝ }
+    fn by_phase(self, n: u32, m: Findings) -> Verdict
+        ensures { λ r. ⌜ r ≡ byPhase (self .phase) self n (facts m) ⌝ }
     {
         let phase = self.phase;
         match phase {
             Phase::Out => self.dropped(),
-            Phase::Sent => Verdict::Settled(self.judge_logon(n, setup, body, ix)),
-            Phase::In => self.judge_turn(n, setup, body, ix),
+            Phase::Sent => Verdict::Settled(self.judge_logon(n, m)),
+            Phase::In => self.judge_turn(n, m),
             Phase::Ended => self.dropped(),
-            Phase::Closing => self.judge_turn(n, setup, body, ix),
+            Phase::Closing => self.judge_turn(n, m),
         }
     }
 
     // "A framed message is judged in this order".
-    pub fn judge(self, setup: Setup, body: &[u8], ix: Index) -> Verdict
-        ensures { λ r. ⌜ r ≡ judgedBy self (factsBy setup self (now (body .entry)) ix) ⌝ }
+    pub fn judge(self, m: Findings) -> Verdict
+        ensures { λ r. ⌜ r ≡ judgedBy self (facts m) ⌝ }
     {
-        match sequence(body, &ix.start, &ix.len, &ix.count) {
-            Number::BadForm(_) => Verdict::Settled(self.ended()),
-            Number::OutOfRange => Verdict::Settled(self.ended()),
-            Number::Value(n) => match ids_fault(setup, body, &ix.start, &ix.len, &ix.count) {
-                Judgement::Faulty(f) => Verdict::Settled(self.rejected_ended(n, f)),
-                Judgement::Fine => self.by_phase(n, setup, body, ix),
-            },
+        let n = m.seq;
+        if n == 0 {
+            return Verdict::Settled(self.ended());
+        }
+        let ids = m.ids;
+        match ids {
+            Judgement::Faulty(f) => Verdict::Settled(self.rejected_ended(n, f)),
+            Judgement::Fine => self.by_phase(n, m),
         }
     }
 }

@@ -2,7 +2,7 @@
 use mathlib.Core.Path.{_≡_, refl, sym, _∙_}
 use mathlib.Core.List.{List}
 use Prim.Native.Nat.{ℕ}
-use Rattle.field.specs.declared.Index.{Index}
+use Rattle.field.specs.declared.Scan.{Scan}
 use Rattle.answer.specs.declared.Setup.{Setup}
 use Rattle.answer.specs.declared.Phase.{Phase}
 use Rattle.answer.specs.declared.Kind.{Kind}
@@ -10,12 +10,11 @@ use Rattle.table.specs.declared.Judgement.{Judgement}
 use Rattle.table.specs.declared.Judgement.the-variants.{Fine, Faulty}
 use Rattle.table.specs.Rows.{kindOf}
 use Rattle.table.specs.Steps.{faultOf}
-use Rattle.table.specs.Indexed.{numberIn, faultBy}
+use Rattle.table.specs.Indexed.{numberIn, indexFrom, faultBy}
 
 pub kind-of-once : (setup : Setup) (t : List ℕ) (r r′ : Kind) → r ≡ kindOf setup t → r′ ≡ kindOf setup t → r ≡ r′
 kind-of-once setup t r r′ p q = p ∙ sym q
 
--- number_at, and number_in with the lists of its index
 pub number-once : (body start len : List ℕ) (tag : ℕ) (r r′ : ℕ) → r ≡ numberIn body start len tag → r′ ≡ numberIn body start len tag → r ≡ r′
 number-once body start len tag r r′ p q = p ∙ sym q
 
@@ -26,6 +25,6 @@ fault-of-once Fine (Faulty f) e = cc
 fault-of-once (Faulty f) Fine e = cc
 fault-of-once (Faulty f) (Faulty g) e = cc
 
-pub fault-in-once : (setup : Setup) (phase : Phase) (o : ℕ) (body : List ℕ) (ix : Index) (r r′ : Judgement)
-    → faultOf r ≡ faultBy setup phase o body ix → faultOf r′ ≡ faultBy setup phase o body ix → r ≡ r′
-fault-in-once setup phase o body ix r r′ p q = fault-of-once r r′ (p ∙ sym q)
+pub fault-in-once : (setup : Setup) (phase : Phase) (o : ℕ) (body : List ℕ) (scan : Scan) (start len count : List ℕ) (r r′ : Judgement)
+    → faultOf r ≡ faultBy setup phase o body (indexFrom scan start len count) → faultOf r′ ≡ faultBy setup phase o body (indexFrom scan start len count) → r ≡ r′
+fault-in-once setup phase o body scan start len count r r′ p q = fault-of-once r r′ (p ∙ sym q)

@@ -3,7 +3,6 @@ use answer::Fault;
 use answer::Kind;
 use answer::Phase;
 use answer::Setup;
-use field::Index;
 use field::Scan;
 use field::TAGS;
 use value::Check;
@@ -21,7 +20,7 @@ ghost use Rattle.answer.specs.Numbers.{fault};
 ghost use Rattle.table.specs.declared.Form.the-variants as form;
 ghost use Rattle.table.specs.Rows.{headerRows, rowsOf, cellOf, kindOf};
 ghost use Rattle.table.specs.Steps.{inRange, valueCheck, rowFaultAt, walk, kindFault, faultOf};
-ghost use Rattle.table.specs.Indexed.{numberIn, atIndex, faultBy};
+ghost use Rattle.table.specs.Indexed.{numberIn, atIndex, indexFrom, faultBy};
 
 // The form of a value: digits; a price; a UTC time; a text of any bytes, and one of bytes 33 to 126; one of two bytes.
 pub enum Form {
@@ -350,14 +349,6 @@ pub fn number_at<'a>(body: &[u8], start: &'a [usize; TAGS], len: &'a [usize; TAG
     value::number_of(field::value_at(body, start, len, tag))
 }
 
-// The same by the whole index.
-pub fn number_in(body: &[u8], ix: Index, tag: u32) -> u32
-    ensures { λ r. ⌜ r ≡ numberIn (now (body .entry)) (ix .start) (ix .len) tag ⌝ }
-    ensures { λ r. ⌜ r ≤ 999999999 ⌝ }
-{
-    number_at(body, &ix.start, &ix.len, tag)
-}
-
 // Whether a number, or a text's length, is in range.
 fn is_in_range<'a>(
     body: &[u8],
@@ -535,19 +526,27 @@ fn walk<'a>(
 // The tag of a message's type.
 const TYPE: u32 = 35;
 
-// Steps 5 to 7, by the body's index: the scan, the type, the table of the type.
-pub fn fault_in(setup: Setup, phase: Phase, o: u32, body: &[u8], ix: Index) -> Judgement
-    ensures { λ r. ⌜ faultOf r ≡ faultBy setup phase o (now (body .entry)) ix ⌝ }
+// Steps 5 to 7, by the lists of the body's index and its scan: the scan, the type, the table of the type.
+pub fn fault_in<'a>(
+    setup: Setup,
+    phase: Phase,
+    o: u32,
+    body: &[u8],
+    scan: Scan,
+    start: &'a [usize; TAGS],
+    len: &'a [usize; TAGS],
+    count: &'a [u8; TAGS],
+) -> Judgement
+    ensures { λ r. ⌜ faultOf r ≡ faultBy setup phase o (now (body .entry)) (indexFrom scan (now (start .entry)) (now (len .entry)) (now (count .entry))) ⌝ }
 {
-    let scan = ix.scan;
     match scan {
         Scan::Malformed => faulty(0, 0),
         Scan::Empty(tag) => faulty(4, tag),
         Scan::Sound => {
-            let kind = kind_of(setup, field::value_at(body, &ix.start, &ix.len, TYPE));
+            let kind = kind_of(setup, field::value_at(body, start, len, TYPE));
             match kind_fault(phase, kind) {
                 Judgement::Faulty(found) => Judgement::Faulty(found),
-                Judgement::Fine => walk(body, &ix.start, &ix.len, &ix.count, o, kind),
+                Judgement::Fine => walk(body, start, len, count, o, kind),
             }
         }
     }

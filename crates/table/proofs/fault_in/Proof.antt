@@ -20,7 +20,7 @@ returns-3 c =
     let k = f .before in
     let v = k .before in
     rw (
-      v .before .before .before .before .enum-told2 .given .1,
+      v .before .enum-told2 .given .1,
       ← v .value-at .ensures,
       ← k .kind-of .ensures,
       ← f .kind-fault .ensures,
@@ -30,16 +30,15 @@ returns-3 c =
 returns-4 : tie.Need-returns-4
 unfolding faultBy firstFault
 returns-4 c =
-    let t = c .before .before .before .before .before in
-    let f = t .before .before in
+    let f = c .before .before .before in
     let k = f .before in
     let v = k .before in
     rw (
-      v .before .before .before .before .enum-told2 .given .1,
+      v .before .enum-told2 .given .1,
       ← v .value-at .ensures,
       ← k .kind-of .ensures,
       ← f .kind-fault .ensures,
-      t .enum-told3 .given .1,
+      c .before .enum-told3 .given .1,
     )
     (c .walk .ensures)
 

@@ -7,4 +7,5 @@ returns : tie.Need-returns
 returns c = rw (c .settled .ensures, c .before .raised .ensures, c .before .before .gap-fill .ensures)
 
 pub filled-spec : {M : Type 1} → statement M
-filled-spec = tie.close (tie.spec (λ c κs. search needs) (λ c κs. search needs) (λ c κs. search needs) returns)
+filled-spec =
+    tie.close (tie.spec (λ c κs. search needs) (λ c κs. search needs) (λ c κs. search needs) returns)

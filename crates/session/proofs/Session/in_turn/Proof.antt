@@ -1,33 +1,23 @@
 -- `session::Session::in_turn` meets its contract: faulty, or its effect.
-use mathlib.Core.Path.{sym, ap, _∙_}
+use mathlib.Core.Path.{sym, ap}
 use Rattle.table.specs.Steps.{faultOf}
-use Rattle.session.specs.Indexed.{factsBy}
-use Rattle.session.specs.Judging.{factsOf}
 use Rattle.session.proofs.Answers.{turn-faulty, turn-fine}
 use borrow.Author.Needs.{needs}
 use Rattle.session.proofs.Session.in_turn.Statement.{statement}
 use Rattle.session.proofs.Session.in_turn.Tie as tie
 
 returns : tie.Need-returns
-unfolding factsBy factsOf
 returns c =
-    turn-faulty _ _ _ _ (c .before .is-reset .result)
-    (sym (c .before .before .before .before .before .before .before .before .before .fault-in .ensures) ∙ ap faultOf (c .before .before .before .before .before .before .before .f .given .1))
-    (rw (← c .before .before .kind-in .ensures) (sym (c .before .is-reset .ensures)))
-    (c .rejected-if .ensures)
+    turn-faulty _ _ _ _ (c .before .is-reset .result) (ap faultOf (c .before .before .before .fault .given .1)) (sym (c .before .is-reset .ensures)) (c .rejected-if .ensures)
 
 returns-2 : tie.Need-returns-2
-unfolding factsBy factsOf
-returns-2 c =
-    turn-fine _ _ _ _ (sym (c .before .before .before .fault-in .ensures) ∙ ap faultOf (c .before .enum-told .given .1)) (c .effect .ensures)
+returns-2 c = turn-fine _ _ _ _ (ap faultOf (c .before .enum-told .given .1)) (c .effect .ensures)
 
 pub in-turn-spec : {M : Type 1} → statement M
 in-turn-spec =
     tie.close
     (tie.spec
-    (λ c κs. search needs)
     (λ c. search needs)
-    (λ c κs. search needs)
     (λ c κs. search needs)
     (λ c κs. search needs)
     (λ c. search needs)

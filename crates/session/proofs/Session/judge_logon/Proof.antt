@@ -1,8 +1,6 @@
 -- `session::Session::judge_logon` meets its contract, test by test.
 use mathlib.Core.Path.{sym, ap, _∙_}
 use borrow.Author.Tests.{not-true, not-false}
-use Rattle.session.specs.Indexed.{factsBy}
-use Rattle.session.specs.Judging.{factsOf}
 use Rattle.table.specs.Steps.{faultOf}
 use Rattle.session.proofs.Answers.{logon-other, logon-low, logon-faulty, logon-fine}
 use borrow.Author.Needs.{needs}
@@ -10,23 +8,19 @@ use Rattle.session.proofs.Session.judge_logon.Statement.{statement}
 use Rattle.session.proofs.Session.judge_logon.Tie as tie
 
 returns : tie.Need-returns
-unfolding factsBy factsOf
 returns c =
-    logon-other _ _ _ (rw (← c .before .before .before .kind-in .ensures) (sym (c .before .before .is-kind .ensures) ∙ not-true _ (c .before .if1 .taken))) (c .ended .ensures)
+    logon-other _ _ _ (sym (c .before .before .is-kind .ensures) ∙ not-true _ (c .before .if1 .taken)) (c .ended .ensures)
 
 returns-2 : tie.Need-returns-2
-unfolding factsBy factsOf
 returns-2 c = logon-low _ _ _ (c .before .if2 .taken) (c .ended2 .ensures)
 
 returns-3 : tie.Need-returns-3
-unfolding factsBy factsOf
 returns-3 c =
-    logon-faulty _ _ _ (rw (← c .before .before .before .before .before .before .before .before .before .kind-in .ensures) (sym (c .before .before .before .before .before .before .before .before .is-kind .ensures) ∙ not-false _ (c .before .before .before .before .before .before .before .if1 .left))) (c .before .before .before .before .before .if2 .left) (sym (c .before .before .before .before .fault-in .ensures) ∙ ap faultOf (c .before .before .f .given .1)) (c .rejected-ended .ensures)
+    logon-faulty _ _ _ (sym (c .before .before .before .before .before .before .before .is-kind .ensures) ∙ not-false _ (c .before .before .before .before .before .before .if1 .left)) (c .before .before .before .before .if2 .left) (ap faultOf (c .before .before .fault .given .1)) (c .rejected-ended .ensures)
 
 returns-4 : tie.Need-returns-4
-unfolding factsBy factsOf
 returns-4 c =
-    logon-fine _ _ _ (rw (← c .before .before .before .before .before .before .before .before .kind-in .ensures) (sym (c .before .before .before .before .before .before .before .is-kind .ensures) ∙ not-false _ (c .before .before .before .before .before .before .if1 .left))) (c .before .before .before .before .if2 .left) (sym (c .before .before .before .fault-in .ensures) ∙ ap faultOf (c .before .enum-told .given .1)) (c .welcomed .ensures)
+    logon-fine _ _ _ (sym (c .before .before .before .before .before .before .is-kind .ensures) ∙ not-false _ (c .before .before .before .before .before .if1 .left)) (c .before .before .before .if2 .left) (ap faultOf (c .before .enum-told .given .1)) (c .welcomed .ensures)
 
 pub judge-logon-spec : {M : Type 1} → statement M
 judge-logon-spec =
@@ -34,11 +28,9 @@ judge-logon-spec =
     (tie.spec
     (λ c κs. search needs)
     (λ c κs. search needs)
-    (λ c κs. search needs)
     returns
     (λ c κs. search needs)
     returns-2
-    (λ c κs. search needs)
     (λ c. search needs)
     (λ c κs. search needs)
     (λ c. search needs)

@@ -1,31 +1,24 @@
 -- `session::Session::judge_turn` meets its contract: reset mode, in its turn, below, above.
-use mathlib.Core.Path.{sym, ap, _∙_}
-use Rattle.session.specs.Indexed.{factsBy}
-use Rattle.session.specs.Judging.{factsOf}
+use mathlib.Core.Path.{sym, _∙_}
 use Rattle.session.proofs.Answers.{turn-reset, turn-now, turn-below, turn-above}
 use borrow.Author.Needs.{needs}
 use Rattle.session.proofs.Session.judge_turn.Statement.{statement}
 use Rattle.session.proofs.Session.judge_turn.Tie as tie
 
 returns : tie.Need-returns
-unfolding factsBy factsOf
-returns c =
-    turn-reset _ _ _ (rw (← c .before .before .before .kind-in .ensures) (sym (c .before .before .is-reset .ensures) ∙ c .before .if1 .taken)) (c .in-turn .ensures)
+returns c = turn-reset _ _ _ (sym (c .before .before .is-reset .ensures) ∙ c .before .if1 .taken) (c .in-turn .ensures)
 
 returns-2 : tie.Need-returns-2
-unfolding factsBy factsOf
 returns-2 c =
-    turn-now _ _ _ (rw (← c .before .before .before .before .before .kind-in .ensures) (sym (c .before .before .before .before .is-reset .ensures) ∙ c .before .before .before .if1 .left)) (c .before .if2 .taken) (c .in-turn2 .ensures)
+    turn-now _ _ _ (sym (c .before .before .before .before .is-reset .ensures) ∙ c .before .before .before .if1 .left) (c .before .if2 .taken) (c .in-turn2 .ensures)
 
 returns-3 : tie.Need-returns-3
-unfolding factsBy factsOf
 returns-3 c =
-    turn-below _ _ _ (rw (← c .before .before .before .before .before .before .before .before .before .before .before .before .kind-in .ensures) (sym (c .before .before .before .before .before .before .before .before .before .before .before .is-reset .ensures) ∙ c .before .before .before .before .before .before .before .before .before .before .if1 .left)) (c .before .before .before .before .before .before .before .before .if2 .left) (c .before .before .before .before .before .before .if3 .taken) (rw (← c .before .is-yes .ensures) (c .below .ensures))
+    turn-below _ _ _ (sym (c .before .before .before .before .before .before .is-reset .ensures) ∙ c .before .before .before .before .before .if1 .left) (c .before .before .before .if2 .left) (c .before .if3 .taken) (c .below .ensures)
 
 returns-4 : tie.Need-returns-4
-unfolding factsBy factsOf
 returns-4 c =
-    turn-above _ _ _ (rw (← c .before .before .before .before .before .before .before .kind-in .ensures) (sym (c .before .before .before .before .before .before .is-reset .ensures) ∙ c .before .before .before .before .before .if1 .left)) (c .before .before .before .if2 .left) (c .before .if3 .left) (c .gap .ensures)
+    turn-above _ _ _ (sym (c .before .before .before .before .before .before .is-reset .ensures) ∙ c .before .before .before .before .before .if1 .left) (c .before .before .before .if2 .left) (c .before .if3 .left) (c .gap .ensures)
 
 pub judge-turn-spec : {M : Type 1} → statement M
 judge-turn-spec =
@@ -33,11 +26,9 @@ judge-turn-spec =
     (tie.spec
     (λ c κs. search needs)
     (λ c κs. search needs)
-    (λ c κs. search needs)
     returns
     (λ c κs. search needs)
     returns-2
-    (λ c κs. search needs)
     (λ c κs. search needs)
     returns-3
     (λ c κs. search needs)
