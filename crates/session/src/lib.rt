@@ -698,7 +698,10 @@ impl Session {
     {
         let fault = m.fault;
         match fault {
-            Judgement::Faulty(f) => Verdict::Settled(self.rejected_if(is_reset(m), n, f)),
+            Judgement::Faulty(f) => {
+                let reset = is_reset(m);
+                Verdict::Settled(self.rejected_if(reset, n, f))
+            }
             Judgement::Fine => self.effect(n, m),
         }
     }
