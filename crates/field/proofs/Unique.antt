@@ -23,7 +23,7 @@ module _ (body : List ℕ) where
     pub count-once : (r r′ : ℕ) → r ≡ countOf tag (piecesOf body) → r′ ≡ countOf tag (piecesOf body) → r ≡ r′
     count-once r r′ p q = once p q
 
-    -- value_at, and value_in by the lists of its index
+    -- value_at
     pub value-once : (start len r r′ : List ℕ) → r ≡ valueIn body start len tag → r′ ≡ valueIn body start len tag → r ≡ r′
     value-once start len r r′ p q = once p q
 

@@ -354,10 +354,3 @@ pub fn count_at(body: &[u8], counts: &[u8; TAGS], tag: u32) -> u8
     }
     count(body, tag)
 }
-
-// A value by the whole index.
-pub fn value_in(body: &[u8], ix: Index, tag: u32) -> &[u8]
-    ensures { λ r. ⌜ now r ≡ valueIn (now (body .entry)) (ix .start) (ix .len) tag ⌝ }
-{
-    value_at(body, &ix.start, &ix.len, tag)
-}

@@ -1,8 +1,10 @@
--- A framed message: what becomes of it is decided first and then written.
---     framed-ruled     the definition, so
---     booked-facts     what is booked has room, and E is below its last number
+-- A framed message: its body is read once, the session judges, and of a report the book is asked before a byte is written.
 --     booked-entered     what a booking writes
---     framed-settled, framed-booked, framed-full     a framed message, by what becomes of it
+--     settled-entered     what a message writes that the session settles
+--     filled-clash, filled-already, filled-full, filled-new     a fill among the day's, by the book's answer
+--     ruled-faulty, ruled-aside, ruled-fill     a report, by what it says
+--     type-read, reported-read, slot-read     what is read of a report by the index of its body
+--     report-small, framed-settled, framed-report     a framed message, by what the session says
 --     heard-more, heard-garbled, heard-framed     a message, by what is found
 --     taken-refused, taken-granted     the call
 use mathlib.Core.Path.{_≡_, refl, sym, ap, _∙_, subst}
@@ -27,125 +29,52 @@ use Rattle.field.specs.declared.Index.{Index}
 use Rattle.field.proofs.IndexLaws.{value-law}
 use Rattle.fill.specs.Slot.{Slot, slotWidth, bookWidth, mostFills}
 use Rattle.book.specs.Memory.{slotsIn, appended}
-use Rattle.book.specs.Known.{largest, bookingOf}
+use Rattle.book.specs.Admitting.{bookingOf, admitOf}
 use Rattle.book.specs.Place.{place, hasRoom, knownOrder, ordersWith, inStep, mostOrders}
 use Rattle.book.specs.declared.Booking.{Booking}
-use Rattle.book.specs.declared.Placed.{Placed}
-use Rattle.book.specs.declared.Placed.the-variants as placed
+use Rattle.book.specs.declared.Admitted.{Admitted}
+use Rattle.book.specs.declared.Admitted.the-variants as admitted
 use Rattle.book.proofs.Slots.{slots-length}
+use Rattle.book.proofs.Placing.{admitted-clash, admitted-already, admitted-full, admitted-new}
 use Rattle.note.specs.Notes.{Books, noteBytes, written}
 use Rattle.note.specs.Kept.{after}
 use Rattle.note.proofs.Reading.{books-length}
 use Rattle.report.specs.Report.{reportedOf, reportedIn, slotFor, slotIn}
 use Rattle.report.specs.Indexed.{textBy, reportBy}
-use Rattle.report.specs.declared.Reported.{Reported}
 use Rattle.report.specs.declared.Reported.the-variants as reported
 use Rattle.report.proofs.IndexLaws.{reported-law, slot-law}
 use Rattle.session.specs.Session.{isOn}
 use Rattle.session.specs.Judging.{judge, wordTag, Facts}
 use Rattle.session.specs.Judging as session
 use Rattle.session.specs.Indexed.{factsBy}
-use Rattle.session.specs.declared.Session.{Session}
 use Rattle.session.specs.declared.Judged.{Judged}
 use Rattle.session.specs.declared.Verdict.{Verdict}
 use Rattle.session.specs.declared.Verdict.the-variants as verdict
-use Rattle.session.proofs.IndexLaws.{judge-law}
-use Rattle.session.proofs.Turns.{facts-read, report-turn}
+use Rattle.session.proofs.IndexLaws.{judge-by}
+use Rattle.session.proofs.Turns.{judge-report}
+use Rattle.table.specs.Indexed.{indexFrom}
 use Rattle.tally.specs.declared.Tally.{Tally}
+use Rattle.answer.specs.Numbers.{largest}
 use Rattle.answer.specs.declared.Setup.{Setup}
 use Rattle.answer.specs.declared.Fault.{Fault}
 use Rattle.answer.specs.declared.Refusal.{Refusal}
 use Rattle.answer.specs.declared.Refusal.the-variants as refusal
+use Rattle.answer.specs.declared.Outcome.{Outcome}
 use Rattle.answer.specs.declared.Outcome.the-variants as outcome
 use Rattle.receiver.specs.State.{State, Did, seen, stored, quiet, sessionOf, keeping, toldOf, replyAfter, noteAfter, bookAfter, bookWith}
-use Rattle.receiver.specs.Calls.{settled, booked, bookingNote, bookedOr, placedFill, ruled, judgedBy, framed, foundTo, message}
+use Rattle.receiver.specs.Calls.{settled, booked, bookedOr, placedFill, ruled, judgedBy, framed, foundTo, message}
 use Rattle.receiver.specs.Receiver.{Lent, What, Message, writing, refusalOf, unrefused, does, call, tallyAfter}
-use Rattle.receiver.specs.Steps.{leaveOf, plainly, spoken, placedTo, reportedTo, judgedTo, rulingBy, ruledBy, Written, Entered, Taken}
+use Rattle.receiver.specs.Steps.{leaveOf, plainly, spoken, Written, Entered, Answered, Taken}
 use Rattle.receiver.specs.declared.State.{State as Stored}
 use Rattle.receiver.specs.declared.Answer.{Answer}
 use Rattle.receiver.specs.declared.Answer.the-variants.{Refused, More, Garbled, Framed}
 use Rattle.receiver.specs.declared.Told.{Told}
 use Rattle.receiver.specs.declared.Leave.the-variants as leave
-use Rattle.receiver.specs.declared.Ruling.{Ruling}
-use Rattle.receiver.specs.declared.Ruling.the-variants as ruling
 use Rattle.receiver.proofs.Seeing.{session-seen, quiet-entered, slots-over, slots-over-one}
 use Rattle.receiver.proofs.Refusing.{does-refused, does-granted}
 use Rattle.receiver.proofs.Speaking.{puts-whole, settled-spoken, spoken-book}
 
--- ---- the definition, decided first
-module _ (setup : Setup) (st : State) (time : List ℕ) (len : ℕ) (ps : Pieces) where
-  room-ruled : (t : Bool) → cond t (booked st len (slotIn ps)) (quiet (Refused refusal.NoRoom) st) ≡ ruledBy setup st time len ps (cond t ruling.Booked ruling.Full)
-  unfolding ruledBy
-  room-ruled true = refl
-  room-ruled false = refl
-
-  placed-ruled : (n : ℕ) (p : Placed)
-      → placedFill setup st time len ps n p ≡ ruledBy setup st time len ps (placedTo (sessionOf st) n (st .kept .slots) (st .kept .orders) (slotIn ps) p)
-  unfolding placedFill placedTo bookedOr ruledBy
-  placed-ruled n placed.New = room-ruled (hasRoom (st .kept .slots) (st .kept .orders) (slotIn ps))
-  placed-ruled n placed.Already = refl
-  placed-ruled n (placed.Clash f) = refl
-
-  reported-ruled : (n : ℕ) (r : Reported)
-      → ruled setup st time len ps n r ≡ ruledBy setup st time len ps (reportedTo (sessionOf st) n (st .kept .slots) (st .kept .orders) (slotIn ps) r)
-  unfolding ruled reportedTo ruledBy
-  reported-ruled n (reported.Faulty f) = refl
-  reported-ruled n reported.Aside = refl
-  reported-ruled n reported.Fill = placed-ruled n (place (st .kept .slots) (slotIn ps))
-
-  judged-ruled : (v : Verdict)
-      → judgedBy setup st time len ps v ≡ ruledBy setup st time len ps (judgedTo (sessionOf st) (st .kept .slots) (st .kept .orders) (slotIn ps) (reportedIn ps) v)
-  unfolding judgedBy judgedTo ruledBy
-  judged-ruled (verdict.Settled j) = refl
-  judged-ruled (verdict.Report n) = reported-ruled n (reportedIn ps)
-
--- by the index of the body
-module _ (setup : Setup) (st : Stored) (m body : List ℕ) (ix : Index) (own : ix ≡ indexOf body) where
-  ruling-law : rulingBy setup st m body ix
-      ≡ judgedTo (st .session) (slotsIn (st .marks .fills) m) (st .marks .orders) (slotIn (piecesOf body)) (reportedIn (piecesOf body)) (judge setup (st .session) (piecesOf body))
-  unfolding rulingBy
-  ruling-law = rw (own, slot-law body, reported-law body, judge-law setup (st .session) body)
-
-  pub framed-ruled : (time : List ℕ) (len : ℕ) → framed setup (seen st m) time len (piecesOf body) ≡ ruledBy setup (seen st m) time len (piecesOf body) (rulingBy setup st m body ix)
-  unfolding framed seen
-  framed-ruled time len = judged-ruled setup (seen st m) time len (piecesOf body) (judge setup (st .session) (piecesOf body)) ∙ ap (ruledBy setup (seen st m) time len (piecesOf body)) (sym ruling-law)
-
 -- ---- what is booked
-room-by : (b : Bool) → ruling.Booked ≡ cond b ruling.Booked ruling.Full → b ≡ true
-room-by true e = refl
-room-by false e = cc
-
-module _ (s : Session) (n : ℕ) (ss : List Slot) (orders : ℕ) (f : Slot) where
-  placed-room : (p : Placed) → ruling.Booked ≡ placedTo s n ss orders f p → hasRoom ss orders f ≡ true
-  unfolding placedTo
-  placed-room placed.New e = room-by (hasRoom ss orders f) e
-  placed-room placed.Already e = cc
-  placed-room (placed.Clash x) e = cc
-
-  reported-room : (r : Reported) → ruling.Booked ≡ reportedTo s n ss orders f r → hasRoom ss orders f ≡ true
-  unfolding reportedTo
-  reported-room (reported.Faulty x) e = cc
-  reported-room reported.Aside e = cc
-  reported-room reported.Fill e = placed-room (place ss f) e
-
-module _ (setup : Setup) (st : Stored) (m body : List ℕ) (ix : Index) where
-  pub booked-facts : ruling.Booked ≡ rulingBy setup st m body ix
-      → (hasRoom (slotsIn (st .marks .fills) m) (st .marks .orders) (slotFor (textBy body ix)) ≡ true) × (st .session .e < 999999999)
-  unfolding rulingBy judgedTo
-  booked-facts e = by (session.judgedBy (st .session) facts) refl e
-    where
-      facts : Facts
-      facts = factsBy setup (st .session) body ix
-
-      by : (v : Verdict) → session.judgedBy (st .session) facts ≡ v
-          → ruling.Booked ≡ judgedTo (st .session) (slotsIn (st .marks .fills) m) (st .marks .orders) (slotFor (textBy body ix)) (reportedOf (reportBy body ix)) v
-          → (hasRoom (slotsIn (st .marks .fills) m) (st .marks .orders) (slotFor (textBy body ix)) ≡ true) × (st .session .e < 999999999)
-      by (verdict.Settled j) h e = let z : _≡_ {A = ℕ} 0 1 = cc in absurd (omega arith)
-      by (verdict.Report n) h e =
-          let t = report-turn (st .session) facts n h in
-          let s = facts-read setup (st .session) body ix .seq n (t .seq) in
-          let k = t .number in
-          (reported-room (st .session) n (slotsIn (st .marks .fills) m) (st .marks .orders) (slotFor (textBy body ix)) (reportedOf (reportBy body ix)) e, omega arith)
 
 -- room means that the counts stay in their range
 module _ (ss : List Slot) (orders : ℕ) (f : Slot) (room : hasRoom ss orders f ≡ true) where
@@ -203,33 +132,114 @@ module _ (st : Stored) (m : List ℕ) (len : ℕ) (s : Slot) (note : List ℕ) (
     booked = b ∙ sym (slots-over-one m (st .marks .fills) s few wide whole);
   }
 
--- ---- a framed message, by what becomes of it
-module _ (setup : Setup) (st : Stored) (m body : List ℕ) (ix : Index) (own : ix ≡ indexOf body) (time : List ℕ) (len : ℕ) where
-  ruled-is : {x : Ruling} → x ≡ rulingBy setup st m body ix → framed setup (seen st m) time len (piecesOf body) ≡ ruledBy setup (seen st m) time len (piecesOf body) x
-  ruled-is e = framed-ruled setup st m body ix own time len ∙ ap (ruledBy setup (seen st m) time len (piecesOf body)) (sym e)
+-- ---- a message that the session settles: the fills stay
+pub settled-entered : (setup : Setup) (st : Stored) (m time : List ℕ) (len : ℕ) (ps : Pieces) (j : Judged) {word reply reply′ note note′ : List ℕ} {t : Told}
+    → word ≡ textAt (wordTag (j .reply)) ps
+    → Written (spoken setup (seen st m) time word (Framed len (j .outcome)) (j .next) (j .reply)) t reply reply′ note note′
+    → Entered (settled setup (seen st m) time len ps j) t m m reply reply′ note note′
+settled-entered setup st m time len ps j {word} e w =
+    rw (settled-spoken setup (seen st m) time len ps j, ← e)
+    (record { written = w; booked = spoken-book setup st m time word (Framed len (j .outcome)) (j .next) (j .reply) })
 
-  pub framed-settled : {t : Told} {reply reply′ note note′ : List ℕ} {word : List ℕ} (j : Judged) → ruling.Settled j ≡ rulingBy setup st m body ix → word ≡ valueIn body (ix .start) (ix .len) (wordTag (j .reply))
-      → Written (spoken setup (seen st m) time word (Framed len (j .outcome)) (j .next) (j .reply)) t reply reply′ note note′
-      → Entered (framed setup (seen st m) time len (piecesOf body)) t m m reply reply′ note note′
-  unfolding ruledBy
-  framed-settled {word = word} j e f w =
-      let d = ruled-is e ∙ settled-spoken setup (seen st m) time len (piecesOf body) j in
-      let g : word ≡ textAt (wordTag (j .reply)) (piecesOf body) =
-      f ∙ ap (λ (i : Index). valueIn body (i .start) (i .len) (wordTag (j .reply))) own ∙ value-law body (wordTag (j .reply)) in
-      rw (d, ← g) (record { written = w; booked = spoken-book setup st m time word (Framed len (j .outcome)) (j .next) (j .reply) })
+-- ---- a fill among the day's, by what becomes of it, and a report, by what it says. A report that is rejected, or not answered, would repeat its type
+module _ (setup : Setup) (st : Stored) (m time : List ℕ) (len : ℕ) (ps : Pieces) (n : ℕ) where
+  rejected-entered : {word reply reply′ note note′ : List ℕ} {t : Told} (f : Fault) {j : Judged} → word ≡ textAt 35 ps → j ≡ session.rejected (st .session) n f
+      → Answered setup st time len word j t reply reply′ note note′
+      → Entered (settled setup (seen st m) time len ps (session.rejected (st .session) n f)) t m m reply reply′ note note′
+  rejected-entered f type g w = rw (← g) (w m ps (type ∙ ap (λ (x : Judged). textAt (wordTag (x .reply)) ps) (sym g)))
 
-  pub framed-booked : {t : Told} {reply note note′ slot m′ : List ℕ} → ruling.Booked ≡ rulingBy setup st m body ix → slot ≡ slotFor (textBy body ix)
-      → Entered (booked (seen st m) len slot) t m m′ reply reply note note′
-      → Entered (framed setup (seen st m) time len (piecesOf body)) t m m′ reply reply note note′
-  unfolding ruledBy
-  framed-booked {slot = slot} e f w =
-      let g : slot ≡ slotIn (piecesOf body) = f ∙ ap (λ (i : Index). slotFor (textBy body i)) own ∙ slot-law body in
-      rw (ruled-is e, ← g) w
+  passed-entered : {word reply reply′ note note′ : List ℕ} {t : Told} (o : Outcome) {j : Judged} → word ≡ textAt 35 ps → j ≡ session.passed o (st .session)
+      → Answered setup st time len word j t reply reply′ note note′
+      → Entered (settled setup (seen st m) time len ps (session.passed o (st .session))) t m m reply reply′ note note′
+  passed-entered o type g w = rw (← g) (w m ps (type ∙ ap (λ (x : Judged). textAt (wordTag (x .reply)) ps) (sym g)))
 
-  pub framed-full : {t : Told} {reply note : List ℕ} → ruling.Full ≡ rulingBy setup st m body ix → t ≡ plainly (Refused refusal.NoRoom) st
-      → Entered (framed setup (seen st m) time len (piecesOf body)) t m m reply reply note note
-  unfolding ruledBy
-  framed-full {t} {reply} {note} e f = rw (ruled-is e, f) (quiet-entered (Refused refusal.NoRoom) st m reply note)
+  pub ruled-faulty : {word reply reply′ note note′ : List ℕ} {t : Told} (f : Fault) {j : Judged} → word ≡ textAt 35 ps → reported.Faulty f ≡ reportedIn ps
+      → j ≡ session.rejected (st .session) n f → Answered setup st time len word j t reply reply′ note note′
+      → Entered (ruled setup (seen st m) time len ps n (reportedIn ps)) t m m reply reply′ note note′
+  unfolding ruled seen
+  ruled-faulty f type e g w = rw (← e) (rejected-entered f type g w)
+
+  pub ruled-aside : {word reply reply′ note note′ : List ℕ} {t : Told} {j : Judged} → word ≡ textAt 35 ps → reported.Aside ≡ reportedIn ps
+      → j ≡ session.passed outcome.Aside (st .session) → Answered setup st time len word j t reply reply′ note note′
+      → Entered (ruled setup (seen st m) time len ps n (reportedIn ps)) t m m reply reply′ note note′
+  unfolding ruled seen
+  ruled-aside type e g w = rw (← e) (passed-entered outcome.Aside type g w)
+
+  module _ {slot : Slot} (own : slot ≡ slotIn ps) where
+    -- the book's answer about the slot is that about the pieces' own
+    asked : {x : Admitted} → x ≡ admitOf (slotsIn (st .marks .fills) m) (st .marks .orders) slot → admitOf (slotsIn (st .marks .fills) m) (st .marks .orders) (slotIn ps) ≡ x
+    asked e = ap (admitOf (slotsIn (st .marks .fills) m) (st .marks .orders)) (sym own) ∙ sym e
+
+    pub filled-clash : {word reply reply′ note note′ : List ℕ} {t : Told} (f : Fault) {j : Judged} → word ≡ textAt 35 ps
+        → admitted.Clash f ≡ admitOf (slotsIn (st .marks .fills) m) (st .marks .orders) slot → j ≡ session.rejected (st .session) n f
+        → Answered setup st time len word j t reply reply′ note note′
+        → Entered (placedFill setup (seen st m) time len ps n (place (slotsIn (st .marks .fills) m) (slotIn ps))) t m m reply reply′ note note′
+    unfolding placedFill seen
+    filled-clash f type e g w = rw (admitted-clash (slotsIn (st .marks .fills) m) (st .marks .orders) (slotIn ps) (asked e)) (rejected-entered f type g w)
+
+    pub filled-already : {word reply reply′ note note′ : List ℕ} {t : Told} {j : Judged} → word ≡ textAt 35 ps
+        → admitted.Already ≡ admitOf (slotsIn (st .marks .fills) m) (st .marks .orders) slot → j ≡ session.passed outcome.Already (st .session)
+        → Answered setup st time len word j t reply reply′ note note′
+        → Entered (placedFill setup (seen st m) time len ps n (place (slotsIn (st .marks .fills) m) (slotIn ps))) t m m reply reply′ note note′
+    unfolding placedFill seen
+    filled-already type e g w = rw (admitted-already (slotsIn (st .marks .fills) m) (st .marks .orders) (slotIn ps) (asked e)) (passed-entered outcome.Already type g w)
+
+    pub filled-full : {reply note : List ℕ} {t : Told} → admitted.Full ≡ admitOf (slotsIn (st .marks .fills) m) (st .marks .orders) slot
+        → t ≡ plainly (Refused refusal.NoRoom) st
+        → Entered (placedFill setup (seen st m) time len ps n (place (slotsIn (st .marks .fills) m) (slotIn ps))) t m m reply reply note note
+    unfolding placedFill bookedOr seen
+    filled-full {reply} {note} e f =
+        let k = admitted-full (slotsIn (st .marks .fills) m) (st .marks .orders) (slotIn ps) (asked e) in
+        rw (k .0, k .1, f) (quiet-entered (Refused refusal.NoRoom) st m reply note)
+
+    pub filled-new : {m′ reply note note′ : List ℕ} {t : Told} {b : Booking} → admitted.New b ≡ admitOf (slotsIn (st .marks .fills) m) (st .marks .orders) slot
+        → Entered (booked (seen st m) len slot) t m m′ reply reply note note′
+        → Entered (placedFill setup (seen st m) time len ps n (place (slotsIn (st .marks .fills) m) (slotIn ps))) t m m′ reply reply note note′
+    unfolding placedFill bookedOr seen
+    filled-new e w =
+        let k = admitted-new (slotsIn (st .marks .fills) m) (st .marks .orders) (slotIn ps) (asked e) in
+        rw (k .0, k .1, ← own) w
+
+pub ruled-fill : (setup : Setup) (st : Stored) (m time : List ℕ) (len : ℕ) (ps : Pieces) (n : ℕ) {t : Told} {m′ reply reply′ note note′ : List ℕ} → reported.Fill ≡ reportedIn ps
+    → Entered (placedFill setup (seen st m) time len ps n (place (slotsIn (st .marks .fills) m) (slotIn ps))) t m m′ reply reply′ note note′
+    → Entered (ruled setup (seen st m) time len ps n (reportedIn ps)) t m m′ reply reply′ note note′
+unfolding ruled seen
+ruled-fill setup st m time len ps n e w = rw (← e) w
+
+-- ---- what is read of a report by the lists of its body's index
+module _ (body start len count : List ℕ) (own : indexOf body ≡ indexFrom (indexOf body .scan) start len count) where
+  pub type-read : valueIn body start len 35 ≡ textAt 35 (piecesOf body)
+  type-read = ap (λ (x : Index). valueIn body (x .start) (x .len) 35) (sym own) ∙ value-law body 35
+
+  pub reported-read : reportedOf (reportBy body (indexFrom (indexOf body .scan) start len count)) ≡ reportedIn (piecesOf body)
+  reported-read = ap (λ (x : Index). reportedOf (reportBy body x)) (sym own) ∙ reported-law body
+
+  pub slot-read : slotFor (textBy body (indexFrom (indexOf body .scan) start len count)) ≡ slotIn (piecesOf body)
+  slot-read = ap (λ (x : Index). slotFor (textBy body x)) (sym own) ∙ slot-law body
+
+-- ---- a framed message, by what the session says
+module _ (setup : Setup) (st : Stored) (m body : List ℕ) {ix : Index} (own : ix ≡ indexOf body) {fs : Facts} (read : fs ≡ factsBy setup (st .session) body ix) where
+  says : {v : Verdict} → v ≡ session.judgedBy (st .session) fs → judge setup (st .session) (piecesOf body) ≡ v
+  says e = sym (e ∙ ap (session.judgedBy (st .session)) read ∙ judge-by setup (st .session) body ix own)
+
+  -- a report about which the book is asked has the number E
+  pub report-small : (n : ℕ) → verdict.Report n ≡ session.judgedBy (st .session) fs → st .session .e < 999999999
+  report-small n e = let t = judge-report setup (st .session) (piecesOf body) n (says e) in omega (arith, t .number, t .most)
+
+  module _ (time : List ℕ) (len : ℕ) where
+    pub framed-settled : {word reply reply′ note note′ : List ℕ} {t : Told} (j : Judged) → verdict.Settled j ≡ session.judgedBy (st .session) fs → word ≡ valueIn body (ix .start) (ix .len) (wordTag (j .reply))
+        → Answered setup st time len word j t reply reply′ note note′
+        → Entered (framed setup (seen st m) time len (piecesOf body)) t m m reply reply′ note note′
+    unfolding framed judgedBy seen
+    framed-settled j e f w =
+        rw (says e)
+        (w m (piecesOf body) (f ∙ ap (λ (i : Index). valueIn body (i .start) (i .len) (wordTag (j .reply))) own ∙ value-law body (wordTag (j .reply))))
+
+    pub framed-report : {m′ reply reply′ note note′ : List ℕ} {t : Told} (n : ℕ) → verdict.Report n ≡ session.judgedBy (st .session) fs
+        → Entered (ruled setup (seen st m) time len (piecesOf body) n (reportedIn (piecesOf body))) t m m′ reply reply′ note note′
+        → Entered (framed setup (seen st m) time len (piecesOf body)) t m m′ reply reply′ note note′
+    unfolding framed judgedBy seen
+    framed-report n e w = rw (says e) w
 
 -- ---- what is found
 module _ (setup : Setup) (st : Stored) (m time s : List ℕ) where
@@ -261,45 +271,6 @@ module _ (setup : Setup) (st : Stored) (m time s : List ℕ) (b : Lent) {may : B
       → Entered (does setup (seen st m) b (Message time s)) t m m′ reply reply′ note note′
   unfolding unrefused
   taken-granted e w = rw (does-granted setup (seen st m) b (Message time s) (e ∙ ap leaveOf (sym message-test))) w
-
--- ---- what becomes of a report, case by case
-module _ (s : Session) (n : ℕ) (ss : List Slot) (orders : ℕ) (f : Slot) where
-  pub placed-clash : (x : Fault) {j : Judged} → placed.Clash x ≡ place ss f → j ≡ session.rejected s n x → ruling.Settled j ≡ placedTo s n ss orders f (place ss f)
-  unfolding placedTo
-  placed-clash x e g = ap ruling.Settled g ∙ ap (placedTo s n ss orders f) e
-
-  pub placed-already : {j : Judged} → placed.Already ≡ place ss f → j ≡ session.passed outcome.Already s → ruling.Settled j ≡ placedTo s n ss orders f (place ss f)
-  unfolding placedTo
-  placed-already e g = ap ruling.Settled g ∙ ap (placedTo s n ss orders f) e
-
-  pub placed-new : (t : Bool) → placed.New ≡ place ss f → t ≡ hasRoom ss orders f → cond t ruling.Booked ruling.Full ≡ placedTo s n ss orders f (place ss f)
-  unfolding placedTo
-  placed-new t e g = ap (λ (x : Bool). cond x ruling.Booked ruling.Full) g ∙ ap (placedTo s n ss orders f) e
-
-  module _ (r : Reported) where
-    pub reported-faulty : (x : Fault) {j : Judged} → reported.Faulty x ≡ r → j ≡ session.rejected s n x → ruling.Settled j ≡ reportedTo s n ss orders f r
-    unfolding reportedTo
-    reported-faulty x e g = ap ruling.Settled g ∙ ap (reportedTo s n ss orders f) e
-
-    pub reported-aside : {j : Judged} → reported.Aside ≡ r → j ≡ session.passed outcome.Aside s → ruling.Settled j ≡ reportedTo s n ss orders f r
-    unfolding reportedTo
-    reported-aside e g = ap ruling.Settled g ∙ ap (reportedTo s n ss orders f) e
-
-    pub reported-fill : {g : Slot} {x : Ruling} → reported.Fill ≡ r → g ≡ f → x ≡ placedTo s n ss orders g (place ss g) → x ≡ reportedTo s n ss orders f r
-    unfolding reportedTo
-    reported-fill e h p = p ∙ ap (λ (y : Slot). placedTo s n ss orders y (place ss y)) h ∙ ap (reportedTo s n ss orders f) e
-
-module _ (setup : Setup) (st : Stored) (m body : List ℕ) (ix : Index) where
-  pub ruled-settled : (j : Judged) → verdict.Settled j ≡ session.judgedBy (st .session) (factsBy setup (st .session) body ix) → ruling.Settled j ≡ rulingBy setup st m body ix
-  unfolding rulingBy judgedTo
-  ruled-settled j e =
-      ap (judgedTo (st .session) (slotsIn (st .marks .fills) m) (st .marks .orders) (slotFor (textBy body ix)) (reportedOf (reportBy body ix))) e
-
-  pub ruled-report : (n : ℕ) {x : Ruling} → verdict.Report n ≡ session.judgedBy (st .session) (factsBy setup (st .session) body ix)
-      → x ≡ reportedTo (st .session) n (slotsIn (st .marks .fills) m) (st .marks .orders) (slotFor (textBy body ix)) (reportedOf (reportBy body ix)) → x ≡ rulingBy setup st m body ix
-  unfolding rulingBy judgedTo
-  ruled-report n e g =
-      g ∙ ap (judgedTo (st .session) (slotsIn (st .marks .fills) m) (st .marks .orders) (slotFor (textBy body ix)) (reportedOf (reportBy body ix))) e
 
 -- ---- the tally
 of-told : (d : Did) (tally : Tally) → tallyAfter (toldOf d .answer) tally ≡ tallyAfter (d .answer) tally

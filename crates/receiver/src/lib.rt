@@ -4,10 +4,10 @@ use answer::Outcome;
 use answer::Phase;
 use answer::Refusal;
 use answer::Setup;
-use book::Placed;
-use field::Index;
+use book::Admitted;
+use book::Booking;
+use field::TAGS;
 use fill::BOOK;
-use fill::SLOT;
 use frame::Found;
 use queue::Acknowledged;
 use queue::Marks;
@@ -19,8 +19,10 @@ use session::Judged;
 use session::Own;
 use session::Session;
 use session::Verdict;
+use table::TYPE;
 use tally::Tally;
 use value::Check;
+use wire::REPLY_ROOM;
 use wire::Reply;
 ghost use mathlib.Core.Path.{_≡_};
 ghost use Prim.Native.Nat.{ℕ, _≤_, _<_};
@@ -34,16 +36,17 @@ ghost use Rattle.note.specs.Kept.{empty};
 ghost use Rattle.fill.specs.Slot.{slotWidth, bookWidth};
 ghost use Rattle.book.specs.Memory.{slotsIn};
 ghost use Rattle.book.specs.Place.{place, hasRoom};
-ghost use Rattle.report.specs.Report.{reportedOf, slotFor};
-ghost use Rattle.report.specs.Indexed.{textBy, reportBy};
-ghost use Rattle.field.specs.Pieces.{piecesOf};
+ghost use Rattle.book.specs.Admitting.{bookingOf};
+ghost use Rattle.report.specs.Report.{reportedIn, slotIn};
+ghost use Rattle.table.specs.Indexed.{indexFrom};
+ghost use Rattle.field.specs.Pieces.{Pieces, piecesOf, textAt};
 ghost use Rattle.field.specs.Index.{indexOf};
 ghost use Rattle.receiver.specs.State.{woken, stored, seen, noteOfChange, bytesOfNote, toldOf, lineAfter, bookAfter};
 ghost use Rattle.receiver.specs.Receiver.{goodId, setupWith, settingUp, writing, Lent, does, call, tallyAfter, Own-call, Line-lost, Message, Begin-again, Acknowledge, New-day, Restart};
 ghost use Rattle.receiver.specs.Receiver as what;
 ghost use Rattle.session.specs.declared.Own.the-variants as own;
-ghost use Rattle.receiver.specs.Steps.{leaveOf, givenTime, plainly, lentTo, lentLine, isFresh, spoken, awake, placedTo, reportedTo, rulingBy, Written, Kept, Entered, Taken};
-ghost use Rattle.receiver.specs.Calls.{booked, framed, message};
+ghost use Rattle.receiver.specs.Steps.{leaveOf, givenTime, plainly, lentTo, lentLine, isFresh, spoken, awake, Written, Kept, Entered, Answered, Taken};
+ghost use Rattle.receiver.specs.Calls.{booked, placedFill, ruled, framed, message};
 
 // What a receiver keeps by value; the day's fills are in the lent book.
 pub struct State {
@@ -84,13 +87,6 @@ pub struct Received {
 pub enum Leave {
     Granted,
     Refused(Refusal),
-}
-
-// What becomes of a framed message: the session settles it, it is booked, or there is no room for it.
-pub enum Ruling {
-    Settled(Judged),
-    Booked,
-    Full,
 }
 
 // A set-up, beside whether it may be used.
@@ -203,9 +199,7 @@ fn is_given(time: &[u8]) -> bool
     is_time(time)
 }
 
-// "reply buffer under 512, note buffer under 102".
-const LEAST_REPLY: usize = 512;
-
+// "note buffer under 102".
 const LEAST_NOTE: usize = 102;
 
 // "O above 999,999,997".
@@ -215,7 +209,7 @@ const LAST_O: u32 = 999999997;
 fn may_write(reply: usize, note: usize, time: &[u8], allowed: bool, o: u32) -> Leave
     ensures { λ r. ⌜ r ≡ leaveOf (writing (lentTo reply note) (now (time .entry)) allowed o) ⌝ }
 {
-    if reply < LEAST_REPLY {
+    if reply < REPLY_ROOM {
         return Leave::Refused(Refusal::ShortBuffer);
     }
     if note < LEAST_NOTE {
@@ -511,52 +505,34 @@ fn wide(n: u32) -> usize
     n as usize
 }
 
-// A fill among the day's fills: booked where it is new and there is room.
-fn placed_fill(session: Session, n: u32, marks: Marks, slot: &[u8], book: &[u8; BOOK]) -> Ruling
-    ensures { λ r. ⌜ r ≡ placedTo session n (slotsIn (marks .fills) (now (book .entry))) (marks .orders) (now (slot .entry)) (place (slotsIn (marks .fills) (now (book .entry))) (now (slot .entry))) ⌝ }
+// A message that the session settles. word is the value that its reply repeats.
+fn settled(
+    setup: Setup,
+    st: State,
+    time: &[u8],
+    len: usize,
+    word: &[u8],
+    j: Judged,
+    reply: &mut [u8],
+    note: &mut [u8],
+) -> Told
+    requires { ⌜ (512 ≤ length (now reply)) × (102 ≤ length (now note)) ⌝ }
+    ensures { λ r. ⌜ Answered setup st (now (time .entry)) len (now (word .entry)) j r (now (reply .entry)) (now (reply .exit)) (now (note .entry)) (now (note .exit)) ⌝ }
 {
-    let fills = wide(marks.fills);
-    match book::place(book, fills, slot) {
-        Placed::Clash(f) => Ruling::Settled(session.rejected(n, f)),
-        Placed::Already => Ruling::Settled(session.passed(Outcome::Already)),
-        Placed::New => {
-            if book::has_room(book, fills, marks.orders, slot) {
-                Ruling::Booked
-            } else {
-                Ruling::Full
-            }
-        }
-    }
-}
-
-// A faultless report in its turn: the rules, set aside, then the book.
-fn reported_to(
-    session: Session,
-    n: u32,
-    marks: Marks,
-    body: &[u8],
-    ix: Index,
-    book: &[u8; BOOK],
-) -> Ruling
-    ensures { λ r. ⌜ r ≡ reportedTo session n (slotsIn (marks .fills) (now (book .entry))) (marks .orders) (slotFor (textBy (now (body .entry)) ix)) (reportedOf (reportBy (now (body .entry)) ix)) ⌝ }
-{
-    match report::reported_in(body, ix) {
-        Reported::Faulty(f) => Ruling::Settled(session.rejected(n, f)),
-        Reported::Aside => Ruling::Settled(session.passed(Outcome::Aside)),
-        Reported::Fill => placed_fill(session, n, marks, &report::slot_in(body, ix), book),
-    }
-}
-
-// What becomes of a framed message, before anything is written: the session judges, and of a report the book is asked.
-fn ruled(setup: Setup, st: State, body: &[u8], ix: Index, book: &[u8; BOOK]) -> Ruling
-    ensures { λ r. ⌜ r ≡ rulingBy setup st (now (book .entry)) (now (body .entry)) ix ⌝ }
-{
-    let session = st.session;
-    let marks = st.marks;
-    match session.judge(setup, body, ix) {
-        Verdict::Settled(j) => Ruling::Settled(j),
-        Verdict::Report(n) => reported_to(session, n, marks, body, ix, book),
-    }
+    let outcome = j.outcome;
+    let next = j.next;
+    let says = j.reply;
+    spoken(
+        setup,
+        st,
+        time,
+        word,
+        Answer::Framed(len, outcome),
+        next,
+        says,
+        reply,
+        note,
+    )
 }
 
 // The bytes of the lent book: room for all its slots.
@@ -568,18 +544,23 @@ fn book_len(book: &[u8; BOOK]) -> usize
 }
 
 // "Then it is booked and numbered from 1"; a booking hands back F alone.
-fn booked(st: State, len: usize, slot: &[u8], book: &mut [u8; BOOK], note: &mut [u8]) -> Told
-    requires { ⌜ (hasRoom (slotsIn (st .marks .fills) (now book)) (st .marks .orders) (now slot) ≡ true) × (st .session .e < 999999999) × (length (now slot) ≡ slotWidth) × (102 ≤ length (now note)) ⌝ }
+fn booked(
+    st: State,
+    len: usize,
+    slot: &[u8],
+    booking: Booking,
+    book: &mut [u8; BOOK],
+    note: &mut [u8],
+) -> Told
+    requires { ⌜ (hasRoom (slotsIn (st .marks .fills) (now book)) (st .marks .orders) (now slot) ≡ true) × (booking ≡ bookingOf (slotsIn (st .marks .fills) (now book)) (st .marks .orders) (now slot)) × (st .session .e < 999999999) × (length (now slot) ≡ slotWidth) × (102 ≤ length (now note)) ⌝ }
     ensures { λ r. ⌜ ((reply : List ℕ) → Entered (booked (seen st (now (book .entry))) len (now (slot .entry))) r (now (book .entry)) (now (book .exit)) reply reply (now (note .entry)) (now (note .exit))) ⌝ }
 {
     let session = st.session;
     let marks = st.marks;
     let phase = session.phase;
     book_len(book);
-    let fills = wide(marks.fills);
-    let booking = book::booking_of(book, fills, marks.orders, slot);
     let noted = note::put_books(note, session.e + 1, session.o, slot);
-    book::append(book, fills, slot);
+    book::append(book, wide(marks.fills), slot);
     Told {
         answer: Answer::Framed(len, Outcome::Booked(marks.fills + 1, booking.stepped)),
         state: State {
@@ -602,7 +583,99 @@ fn booked(st: State, len: usize, slot: &[u8], book: &mut [u8; BOOK], note: &mut 
     }
 }
 
-// A framed message: what becomes of it, and then what is written.
+// A fill among the day's fills. Before a byte is written it is known what becomes of it.
+fn entered(
+    setup: Setup,
+    st: State,
+    time: &[u8],
+    len: usize,
+    word: &[u8],
+    n: u32,
+    slot: &[u8],
+    book: &mut [u8; BOOK],
+    reply: &mut [u8],
+    note: &mut [u8],
+) -> Told
+    requires { ⌜ (st .session .e < 999999999) × (length (now slot) ≡ slotWidth) × (512 ≤ length (now reply)) × (102 ≤ length (now note)) ⌝ }
+    ensures { λ r. ⌜ ((ps : Pieces) → now (word .entry) ≡ textAt 35 ps → now (slot .entry) ≡ slotIn ps → Entered (placedFill setup (seen st (now (book .entry))) (now (time .entry)) len ps n (place (slotsIn (st .marks .fills) (now (book .entry))) (slotIn ps))) r (now (book .entry)) (now (book .exit)) (now (reply .entry)) (now (reply .exit)) (now (note .entry)) (now (note .exit))) ⌝ }
+{
+    let session = st.session;
+    let marks = st.marks;
+    match book::admit(book, wide(marks.fills), marks.orders, slot) {
+        Admitted::Clash(f) => settled(
+            setup,
+            st,
+            time,
+            len,
+            word,
+            session.rejected(n, f),
+            reply,
+            note,
+        ),
+        Admitted::Already => settled(
+            setup,
+            st,
+            time,
+            len,
+            word,
+            session.passed(Outcome::Already),
+            reply,
+            note,
+        ),
+        Admitted::Full => plain(Answer::Refused(Refusal::NoRoom), st),
+        Admitted::New(booking) => booked(st, len, slot, booking, book, note),
+    }
+}
+
+// A faultless report in its turn: the rules, set aside, then the book. Its body is given with the lists of its index.
+fn reported<'a>(
+    setup: Setup,
+    st: State,
+    time: &[u8],
+    len: usize,
+    n: u32,
+    body: &[u8],
+    starts: &'a [usize; TAGS],
+    lens: &'a [usize; TAGS],
+    counts: &'a [u8; TAGS],
+    book: &mut [u8; BOOK],
+    reply: &mut [u8],
+    note: &mut [u8],
+) -> Told
+    requires { ⌜ (indexOf (now body) ≡ indexFrom (indexOf (now body) .scan) (now starts) (now lens) (now counts)) × (st .session .e < 999999999) × (512 ≤ length (now reply)) × (102 ≤ length (now note)) ⌝ }
+    ensures { λ r. ⌜ Entered (ruled setup (seen st (now (book .entry))) (now (time .entry)) len (piecesOf (now (body .entry))) n (reportedIn (piecesOf (now (body .entry))))) r (now (book .entry)) (now (book .exit)) (now (reply .entry)) (now (reply .exit)) (now (note .entry)) (now (note .exit)) ⌝ }
+{
+    let session = st.session;
+    let word = field::value_at(body, starts, lens, TYPE);
+    match report::reported_at(body, starts, lens, counts) {
+        Reported::Faulty(f) => settled(
+            setup,
+            st,
+            time,
+            len,
+            word,
+            session.rejected(n, f),
+            reply,
+            note,
+        ),
+        Reported::Aside => settled(
+            setup,
+            st,
+            time,
+            len,
+            word,
+            session.passed(Outcome::Aside),
+            reply,
+            note,
+        ),
+        Reported::Fill => {
+            let slot = report::slot_at(body, starts, lens);
+            entered(setup, st, time, len, word, n, &slot, book, reply, note)
+        }
+    }
+}
+
+// A framed message: its body is walked once, and judged by what was read.
 fn framed(
     setup: Setup,
     st: State,
@@ -616,27 +689,30 @@ fn framed(
     requires { ⌜ (512 ≤ length (now reply)) × (102 ≤ length (now note)) ⌝ }
     ensures { λ r. ⌜ Entered (framed setup (seen st (now (book .entry))) (now (time .entry)) len (piecesOf (now (body .entry)))) r (now (book .entry)) (now (book .exit)) (now (reply .entry)) (now (reply .exit)) (now (note .entry)) (now (note .exit)) ⌝ }
 {
+    let session = st.session;
     let ix = field::indexed(body);
-    match ruled(setup, st, body, ix, book) {
-        Ruling::Settled(j) => {
+    let scan = ix.scan;
+    let found = session::findings_of(setup, session, body, scan, &ix.start, &ix.len, &ix.count);
+    match session.judge(found) {
+        Verdict::Settled(j) => {
             let says = j.reply;
-            let next = j.next;
-            let outcome = j.outcome;
-            let word = field::value_in(body, ix, session::word_tag(says));
-            spoken(
-                setup,
-                st,
-                time,
-                word,
-                Answer::Framed(len, outcome),
-                next,
-                says,
-                reply,
-                note,
-            )
+            let word = field::value_at(body, &ix.start, &ix.len, session::word_tag(says));
+            settled(setup, st, time, len, word, j, reply, note)
         }
-        Ruling::Booked => booked(st, len, &report::slot_in(body, ix), book, note),
-        Ruling::Full => plain(Answer::Refused(Refusal::NoRoom), st),
+        Verdict::Report(n) => reported(
+            setup,
+            st,
+            time,
+            len,
+            n,
+            body,
+            &ix.start,
+            &ix.len,
+            &ix.count,
+            book,
+            reply,
+            note,
+        ),
     }
 }
 

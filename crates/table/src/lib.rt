@@ -524,7 +524,7 @@ fn walk<'a>(
 }
 
 // The tag of a message's type.
-const TYPE: u32 = 35;
+pub const TYPE: u32 = 35;
 
 // Steps 5 to 7, by the lists of the body's index and its scan: the scan, the type, the table of the type.
 pub fn fault_in<'a>(

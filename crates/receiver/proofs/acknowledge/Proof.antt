@@ -7,27 +7,6 @@ use borrow.Author.Needs.{needs}
 use Rattle.receiver.proofs.acknowledge.Statement.{statement}
 use Rattle.receiver.proofs.acknowledge.Tie as tie
 
-acknowledge-requires : tie.Need-acknowledge-requires
-acknowledge-requires c κs = search needs
-
-enum-known-next : tie.Need-enum-known-next
-enum-known-next c = search needs
-
-enum-told : tie.Need-enum-told
-enum-told c = search needs
-
-plain-requires : tie.Need-plain-requires
-plain-requires c κs = search needs
-
-enum-known-why : tie.Need-enum-known-why
-enum-known-why c = search needs
-
-plain-requires-2 : tie.Need-plain-requires-2
-plain-requires-2 c κs = search needs
-
-same-length : tie.Need-same-length
-same-length c = search needs
-
 returns : tie.Need-returns
 returns c = let a = c .before .before .before .before .before .before .before .before .before .before .before .args in λ setup reply line. record {
   told = ap (ackTold (a .st)) (sym (c .before .next .given .1) ∙ c .before .before .before .before .before .acknowledge .ensures .0) ∙ ack-told (a .st) (now (a .book)) (a .n) setup (lentLine reply (length (now (a .note))) line);
@@ -35,18 +14,12 @@ returns c = let a = c .before .before .before .before .before .before .before .b
   noted = c .before .before .before .before .before .acknowledge .ensures .2 ∙ ack-note (a .st) (now (a .book)) (a .n) setup (lentLine reply (length (now (a .note))) line) (now (a .note)) refl;
 }
 
-same-length-2 : tie.Need-same-length-2
-same-length-2 c = search needs
-
 returns-2 : tie.Need-returns-2
 returns-2 c = let a = c .before .before .before .before .before .before .before .before .before .before .before .args in λ setup reply line. record {
   told = c .plain .ensures ∙ ap (ackTold (a .st)) (sym (c .before .enum-told .given .1) ∙ c .before .before .before .before .before .acknowledge .ensures .0) ∙ ack-told (a .st) (now (a .book)) (a .n) setup (lentLine reply (length (now (a .note))) line);
   booked = c .before .before .before .before .before .acknowledge .ensures .1 ∙ ack-book (a .st) (now (a .book)) (a .n) setup (lentLine reply (length (now (a .note))) line);
   noted = c .before .before .before .before .before .acknowledge .ensures .2 ∙ ack-note (a .st) (now (a .book)) (a .n) setup (lentLine reply (length (now (a .note))) line) (now (a .note)) refl;
 }
-
-same-length-3 : tie.Need-same-length-3
-same-length-3 c = search needs
 
 returns-3 : tie.Need-returns-3
 returns-3 c = let a = c .before .before .before .before .before .before .before .before .before .before .before .before .args in λ setup reply line. record {
@@ -59,15 +32,15 @@ pub acknowledge-spec : {M : Type 1} → statement M
 acknowledge-spec =
     tie.close
     (tie.spec
-    acknowledge-requires
-    enum-known-next
-    enum-told
-    plain-requires
-    enum-known-why
-    plain-requires-2
-    same-length
+    (λ c κs. search needs)
+    (λ c. search needs)
+    (λ c. search needs)
+    (λ c κs. search needs)
+    (λ c. search needs)
+    (λ c κs. search needs)
+    (λ c. search needs)
     returns
-    same-length-2
+    (λ c. search needs)
     returns-2
-    same-length-3
+    (λ c. search needs)
     returns-3)

@@ -4,11 +4,8 @@ use borrow.Author.Needs.{needs}
 use Rattle.receiver.proofs.begin_again.Statement.{statement}
 use Rattle.receiver.proofs.begin_again.Tie as tie
 
-plain-requires : tie.Need-plain-requires
-plain-requires c κs = search needs
-
 returns : tie.Need-returns
 returns c = let a = c .before .before .before .args in λ setup b m. c .plain .ensures ∙ begun-told (a .st) setup b m
 
 pub begin-again-spec : {M : Type 1} → statement M
-begin-again-spec = tie.close (tie.spec plain-requires returns)
+begin-again-spec = tie.close (tie.spec (λ c κs. search needs) returns)

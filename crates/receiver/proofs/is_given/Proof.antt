@@ -6,11 +6,8 @@ use Rattle.receiver.proofs.is_given.Tie as tie
 returns : tie.Need-returns
 returns c = rw (ne-eqb _ _ (c .if1 .taken))
 
-is-time-requires : tie.Need-is-time-requires
-is-time-requires c κs = search needs
-
 returns-2 : tie.Need-returns-2
 returns-2 c = rw (eq-eqb _ _ (c .before .if1 .left)) (c .is-time .ensures)
 
 pub is-given-spec : {M : Type 1} → statement M
-is-given-spec = tie.close (tie.spec returns is-time-requires returns-2)
+is-given-spec = tie.close (tie.spec returns (λ c κs. search needs) returns-2)

@@ -4,20 +4,8 @@ use borrow.Author.Needs.{needs}
 use Rattle.receiver.proofs.line_lost.Statement.{statement}
 use Rattle.receiver.proofs.line_lost.Tie as tie
 
-is-off-requires : tie.Need-is-off-requires
-is-off-requires c κs = search needs
-
-plain-requires : tie.Need-plain-requires
-plain-requires c κs = search needs
-
 returns : tie.Need-returns
 returns c = let a = c .before .before .before .before .before .args in λ setup b m. c .plain .ensures ∙ lost-refused setup (a .st) b m (sym (c .before .before .is-off .ensures) ∙ c .before .if1 .taken)
-
-line-lost-requires : tie.Need-line-lost-requires
-line-lost-requires c κs = search needs
-
-plain-requires-2 : tie.Need-plain-requires-2
-plain-requires-2 c κs = search needs
 
 returns-2 : tie.Need-returns-2
 returns-2 c = let a = c .before .before .before .before .before .before .args in λ setup b m. c .plain2 .ensures ∙ lost-told setup (a .st) b m _ (c .before .line-lost .ensures) (sym (c .before .before .before .is-off .ensures) ∙ c .before .before .if1 .left)
@@ -25,4 +13,4 @@ returns-2 c = let a = c .before .before .before .before .before .before .args in
 pub line-lost-spec : {M : Type 1} → statement M
 line-lost-spec =
     tie.close
-    (tie.spec is-off-requires plain-requires returns line-lost-requires plain-requires-2 returns-2)
+    (tie.spec (λ c κs. search needs) (λ c κs. search needs) returns (λ c κs. search needs) (λ c κs. search needs) returns-2)

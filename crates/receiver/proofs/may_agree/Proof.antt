@@ -6,17 +6,11 @@ use borrow.Author.Needs.{needs}
 use Rattle.receiver.proofs.may_agree.Statement.{statement}
 use Rattle.receiver.proofs.may_agree.Tie as tie
 
-good-id-requires : tie.Need-good-id-requires
-good-id-requires c κs = search needs
-
 returns : tie.Need-returns
 returns c = sym (and-no-left _ _ (sym (c .before .good-id .ensures) ∙ not-true _ (c .if1 .taken)))
-
-good-id-requires-2 : tie.Need-good-id-requires-2
-good-id-requires-2 c κs = search needs
 
 returns-2 : tie.Need-returns-2
 returns-2 c = and-rest _ _ _ (sym (c .before .before .good-id .ensures) ∙ not-false _ (c .before .if1 .left)) (c .good-id2 .ensures)
 
 pub may-agree-spec : {M : Type 1} → statement M
-may-agree-spec = tie.close (tie.spec good-id-requires returns good-id-requires-2 returns-2)
+may-agree-spec = tie.close (tie.spec (λ c κs. search needs) returns (λ c κs. search needs) returns-2)

@@ -16,9 +16,6 @@ returns c = let a = c .before .before .args in rw (lt-ltb _ _ (c .if1 .taken)) a
 returns-2 : tie.Need-returns-2
 returns-2 c = let a = c .before .before .before .args in rw (le-ltb _ _ (c .before .if1 .left), lt-ltb _ _ (c .if2 .taken)) at (leave-by (a .reply) (a .note) (now (a .time)) (a .allowed) (a .o) _ _ refl refl)
 
-is-given-requires : tie.Need-is-given-requires
-is-given-requires c κs = search needs
-
 returns-3 : tie.Need-returns-3
 returns-3 c = let a = c .before .before .before .before .before .args in rw (le-ltb _ _ (c .before .before .before .if1 .left), le-ltb _ _ (c .before .before .if2 .left)) at (leave-by (a .reply) (a .note) (now (a .time)) (a .allowed) (a .o) false _ (sym (not-true _ (c .if3 .taken)) ∙ c .before .is-given .ensures) refl)
 
@@ -34,4 +31,4 @@ returns-6 c = let a = c .before .before .before .before .before .before .before 
 pub may-write-spec : {M : Type 1} → statement M
 may-write-spec =
     tie.close
-    (tie.spec returns returns-2 is-given-requires returns-3 returns-4 returns-5 returns-6)
+    (tie.spec returns returns-2 (λ c κs. search needs) returns-3 returns-4 returns-5 returns-6)

@@ -5,24 +5,6 @@ use borrow.Author.Needs.{needs}
 use Rattle.receiver.proofs.restart_from.Statement.{statement}
 use Rattle.receiver.proofs.restart_from.Tie as tie
 
-restart-requires : tie.Need-restart-requires
-restart-requires c κs = search needs
-
-enum-known-counts : tie.Need-enum-known-counts
-enum-known-counts c = search needs
-
-awake-requires : tie.Need-awake-requires
-awake-requires c κs = search needs
-
-plain-requires : tie.Need-plain-requires
-plain-requires c κs = search needs
-
-enum-known-at : tie.Need-enum-known-at
-enum-known-at c = search needs
-
-plain-requires-2 : tie.Need-plain-requires-2
-plain-requires-2 c κs = search needs
-
 returns : tie.Need-returns
 returns c = let a = c .before .before .before .before .before .before .before .before .args in λ setup b. restart-again (a .st) (now (a .book)) (now (a .notes)) setup b _ _ (c .before .before .before .before .before .restart .ensures .1) _ _ _ (c .plain .ensures) (c .before .awake .ensures) (sym (c .before .before .before .counts .given .1) ∙ c .before .before .before .before .before .restart .ensures .0)
 
@@ -33,11 +15,11 @@ pub restart-from-spec : {M : Type 1} → statement M
 restart-from-spec =
     tie.close
     (tie.spec
-    restart-requires
-    enum-known-counts
-    awake-requires
-    plain-requires
-    enum-known-at
-    plain-requires-2
+    (λ c κs. search needs)
+    (λ c. search needs)
+    (λ c κs. search needs)
+    (λ c κs. search needs)
+    (λ c. search needs)
+    (λ c κs. search needs)
     returns
     returns-2)
