@@ -1,0 +1,239 @@
+// What bench/run times, for a program in C to call: the message call of a receiver that is on, a restart, the listing, and the stages of a message call that
+// can be timed by themselves. The numbers that C is told are enough to see that the work was done.
+use answer::Id;
+use answer::Outcome;
+use answer::Phase;
+use answer::Setup;
+use book::Admitted;
+use field::TAGS;
+use fill::BOOK;
+use frame::Found;
+use queue::Marks;
+use receiver::Answer;
+use receiver::State;
+use receiver::Told;
+use restart::Restarted;
+use session::Session;
+use session::Verdict;
+use tally::Tally;
+ghost use mathlib.Core.Path.{_≡_};
+ghost use lib.ListN.{length};
+ghost use Rattle.octet.specs.Splice.{splice};
+ghost use Rattle.field.specs.Index.{indexOf};
+ghost use Rattle.field.specs.Pieces.{piecesOf};
+ghost use Rattle.session.specs.Judging.{judge};
+ghost use Rattle.book.specs.Memory.{slotsIn};
+ghost use Rattle.book.specs.Admitting.{admitOf};
+ghost use Rattle.frame.specs.Finding.{foundIn};
+ghost use Rattle.note.specs.Notes.{written};
+ghost use Rattle.restart.specs.Restart.{restart, told, bookAfter};
+ghost use Rattle.listing.specs.Listing.{listing, bookListed};
+ghost use Rattle.receiver.specs.State.{seen};
+ghost use Rattle.receiver.specs.Receiver.{does, Message};
+ghost use Rattle.receiver.specs.Steps.{lentTo};
+ghost use Rattle.bench.specs.Timed.{agreed, online, outcomeNumber, answerNumber, wordOf, Timed, wholeOf, lengthOf, verdictNumber, admittedNumber};
+
+fn outcome_number(outcome: Outcome) -> u8
+    ensures { λ r. ⌜ r ≡ outcomeNumber outcome ⌝ }
+{
+    match outcome {
+        Outcome::Ended => 1,
+        Outcome::Rejected(_) => 2,
+        Outcome::RejectedEnded(_) => 3,
+        Outcome::Dropped => 4,
+        Outcome::Gap => 5,
+        Outcome::In => 6,
+        Outcome::Heard => 7,
+        Outcome::Echoed => 8,
+        Outcome::Filled => 9,
+        Outcome::Moved(_) => 10,
+        Outcome::Aside => 11,
+        Outcome::Already => 12,
+        Outcome::Booked(_, _) => 13,
+    }
+}
+
+fn answer_number(answer: Answer) -> u8
+    ensures { λ r. ⌜ r ≡ answerNumber answer ⌝ }
+{
+    match answer {
+        Answer::Framed(_, outcome) => outcome_number(outcome),
+        Answer::Done => 0,
+        Answer::Refused(_) => 0,
+        Answer::More => 0,
+        Answer::Garbled(_) => 0,
+        Answer::Offered => 0,
+        Answer::None => 0,
+        Answer::Acked => 0,
+        Answer::Already => 0,
+        Answer::Restarted(_) => 0,
+    }
+}
+
+// Each length takes 12 bits of the word.
+const LENGTHS: usize = 4096;
+
+// What is told, in one word.
+fn word_of(told: Told) -> u64
+    ensures { λ r. ⌜ r ≡ wordOf told ⌝ }
+{
+    let answer = told.answer;
+    let reply = (told.reply % LENGTHS) as u64;
+    let note = (told.note % LENGTHS) as u64;
+    (answer_number(answer) as u64 * 4096 + reply) * 4096 + note
+}
+
+fn agreed(ours: [u8; 16], n: usize, theirs: [u8; 16], k: usize) -> Setup
+    ensures { λ r. ⌜ r ≡ agreed ours n theirs k ⌝ }
+{
+    Setup {
+        ours: Id {
+            bytes: ours,
+            len: n,
+        },
+        theirs: Id {
+            bytes: theirs,
+            len: k,
+        },
+    }
+}
+
+fn online(e: u32, fills: u32, orders: u32) -> State
+    ensures { λ r. ⌜ r ≡ online e fills orders ⌝ }
+{
+    State {
+        session: Session {
+            phase: Phase::In,
+            e,
+            o: 1,
+            asked: 0,
+        },
+        marks: Marks {
+            fills,
+            orders,
+            acked: 0,
+            offered: 0,
+        },
+    }
+}
+
+// The message call.
+#[no_mangle]
+pub extern "C" fn bench_message(
+    ours: &[u8; 16],
+    n: usize,
+    theirs: &[u8; 16],
+    k: usize,
+    e: u32,
+    fills: u32,
+    orders: u32,
+    time: &[u8],
+    bytes: &[u8],
+    book: &mut [u8; BOOK],
+    reply: &mut [u8],
+    note: &mut [u8],
+) -> u64
+    ensures { λ r. ⌜ Timed (does (agreed (now (ours .entry)) n (now (theirs .entry)) k) (seen (online e fills orders) (now (book .entry))) (lentTo (length (now (reply .entry))) (length (now (note .entry)))) (Message (now (time .entry)) (now (bytes .entry)))) r (now (book .entry)) (now (book .exit)) (now (reply .entry)) (now (reply .exit)) (now (note .entry)) (now (note .exit)) ⌝ }
+{
+    let received = receiver::message(
+        agreed(*ours, n, *theirs, k),
+        online(e, fills, orders),
+        Tally::new(),
+        time,
+        bytes,
+        book,
+        reply,
+        note,
+    );
+    word_of(received.told)
+}
+
+// A restart into the lent book.
+#[no_mangle]
+pub extern "C" fn bench_restart(book: &mut [u8; BOOK], notes: &[u8]) -> usize
+    ensures { λ r. ⌜ (r ≡ wholeOf (told (restart (now (notes .entry))))) × (now (book .exit) ≡ bookAfter (now (book .entry)) (restart (now (notes .entry)))) ⌝ }
+{
+    match restart::restart(book, notes) {
+        Restarted::Again(_, whole) => whole,
+        Restarted::Unlawful(_) => 0,
+    }
+}
+
+// The listing.
+#[no_mangle]
+pub extern "C" fn bench_listing(notes: &[u8], book: &mut [u8; BOOK], out: &mut [u8]) -> usize
+    ensures { λ r. ⌜ (r ≡ written (now (out .entry)) (listing (now (notes .entry)))) × (now (out .exit) ≡ splice (now (out .entry)) 0 (listing (now (notes .entry)))) × (now (book .exit) ≡ bookListed (now (book .entry)) (now (notes .entry))) ⌝ }
+{
+    listing::write_listing(notes, book, out)
+}
+
+// Finding the message at the front of bytes.
+#[no_mangle]
+pub extern "C" fn bench_find(bytes: &[u8]) -> usize
+    ensures { λ r. ⌜ r ≡ lengthOf (foundIn (now (bytes .entry))) ⌝ }
+{
+    match frame::find(bytes) {
+        Found::More => 0,
+        Found::Garbled(_) => 0,
+        Found::Framed(len) => len,
+    }
+}
+
+// The index of a body, its lists handed out.
+#[no_mangle]
+pub extern "C" fn bench_index(
+    body: &[u8],
+    start: &mut [usize; TAGS],
+    len: &mut [usize; TAGS],
+    count: &mut [u8; TAGS],
+)
+    ensures { λ r. ⌜ (now (start .exit) ≡ indexOf (now (body .entry)) .start) × (now (len .exit) ≡ indexOf (now (body .entry)) .len) × (now (count .exit) ≡ indexOf (now (body .entry)) .count) ⌝ }
+{
+    let ix = field::indexed(body);
+    let starts = ix.start;
+    let lens = ix.len;
+    let counts = ix.count;
+    *start = starts;
+    *len = lens;
+    *count = counts;
+}
+
+// The index and the judging of a body, by a session in phase 2 that expects e.
+#[no_mangle]
+pub extern "C" fn bench_judge(
+    ours: &[u8; 16],
+    n: usize,
+    theirs: &[u8; 16],
+    k: usize,
+    e: u32,
+    body: &[u8],
+) -> u8
+    ensures { λ r. ⌜ r ≡ verdictNumber (judge (agreed (now (ours .entry)) n (now (theirs .entry)) k) (online e 0 0 .session) (piecesOf (now (body .entry)))) ⌝ }
+{
+    let setup = agreed(*ours, n, *theirs, k);
+    let st = online(e, 0, 0);
+    let session = st.session;
+    let ix = field::indexed(body);
+    let scan = ix.scan;
+    let found = session::findings_of(setup, session, body, scan, &ix.start, &ix.len, &ix.count);
+    match session.judge(found) {
+        Verdict::Settled(j) => {
+            let outcome = j.outcome;
+            outcome_number(outcome)
+        }
+        Verdict::Report(_) => 14,
+    }
+}
+
+// What becomes of a fill among the day's.
+#[no_mangle]
+pub extern "C" fn bench_admit(book: &[u8; BOOK], count: usize, orders: u32, slot: &[u8]) -> u8
+    ensures { λ r. ⌜ r ≡ admittedNumber (admitOf (slotsIn count (now (book .entry))) orders (now (slot .entry))) ⌝ }
+{
+    match book::admit(book, count, orders, slot) {
+        Admitted::Clash(_) => 1,
+        Admitted::Already => 2,
+        Admitted::Full => 3,
+        Admitted::New(_) => 4,
+    }
+}
