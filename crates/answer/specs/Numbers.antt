@@ -38,9 +38,13 @@ refusalNumber refusal.BadId = 9
 abbrev pub fault : ℕ → ℕ → Fault
 fault reason tag = record { reason = reason; tag = tag; at = 0 }
 
+-- the largest number of four bytes
+abbrev pub largest : ℕ
+largest = 4294967295
+
 -- a number counted on; it is kept in four bytes and goes no further (refusal 4 and step 1 come long before)
 abbrev pub counted : ℕ → ℕ → ℕ
-counted n k = min (n + k) 4294967295
+counted n k = min (n + k) largest
 
 -- which row of the table a type has, to tell one from another
 abbrev pub kindNumber : Kind → ℕ

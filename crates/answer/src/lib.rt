@@ -1,5 +1,8 @@
 // What several crates are told or answer with: set-up, phase, type of message, fault, outcome, refusal. The paper's numbers for them are in specs/.
 
+// E, O and the counts are kept in four bytes, and what is counted stops at the largest number of these.
+pub const LARGEST: u32 = 4294967295;
+
 // An agreed ID: the first len of bytes.
 pub struct Id {
     pub bytes: [u8; 16],

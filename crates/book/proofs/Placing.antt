@@ -20,12 +20,12 @@ use borrow.Author.Tests.{lt-ltb, le-ltb, ne-eqb}
 use Rattle.octet.specs.Bytes.{same}
 use Rattle.octet.specs.Maybe.{find, isNone}
 use Rattle.octet.proofs.Cases.{cond-true, cond-false, of-cond}
-use Rattle.answer.specs.Numbers.{fault}
+use Rattle.answer.specs.Numbers.{fault, largest}
 use Rattle.answer.specs.declared.Fault.{Fault}
 use Rattle.fill.specs.Slot.{Slot, orderOf, sharesOf, priceOf, cumOf, mostFills}
 use Rattle.book.specs.Place.{sameExec, sameOrder, sameSymbol, sameSide, sameContents, byOrder, byExec, place, knownOrder, ordersWith, hasRoom, sumWhere, carried, inStep, mostOrders}
 use Rattle.book.specs.Memory.{slotsIn}
-use Rattle.book.specs.Known.{largest, bookingOf, admitBy, admitOf}
+use Rattle.book.specs.Admitting.{bookingOf, admitBy, admitOf}
 use Rattle.book.specs.Seeing.{someSlot}
 use Rattle.book.specs.declared.Booking.{Booking}
 use Rattle.book.specs.declared.Placed.{Placed}

@@ -7,7 +7,7 @@ use Rattle.octet.specs.Bytes.{part}
 use Rattle.octet.proofs.Unique.{Answer, one-answer, Writes, one-writing}
 use Rattle.fill.specs.Slot.{Slot, slotWidth}
 use Rattle.book.specs.Memory.{slotsIn, fitsAfter, appended}
-use Rattle.book.specs.Known.{admitOf}
+use Rattle.book.specs.Admitting.{admitOf}
 use Rattle.book.specs.declared.Admitted.{Admitted}
 
 pub slot-at-one : (m : List ℕ) (i : ℕ) {r r′ : List ℕ} → Answer (part (i * slotWidth) slotWidth m) r → Answer (part (i * slotWidth) slotWidth m) r′ → r ≡ r′

@@ -1,4 +1,4 @@
 pub mod Place
 pub mod Memory
-pub mod Known
+pub mod Admitting
 pub mod Seeing

@@ -9,14 +9,15 @@ ghost use lib.Dec.{ltb, eqb};
 ghost use Rattle.octet.specs.Bytes.{same, part};
 ghost use Rattle.octet.specs.Maybe.{find, isNone};
 ghost use Rattle.octet.specs.Places.{wordAt};
-ghost use Rattle.answer.specs.Numbers.{fault};
+ghost use Rattle.answer.specs.Numbers.{fault, largest};
 ghost use Rattle.fill.specs.Slot.{Slot, slotWidth, mostFills, bookWidth, execOf, orderOf, sharesOf, cumOf};
 ghost use Rattle.book.specs.Place.{sameContents, sameExec, sameOrder, byOrder, byExec, mostOrders, carried};
 ghost use Rattle.book.specs.Memory.{slotsIn, fitsAfter, appended};
 ghost use Rattle.book.specs.declared.Placed.the-variants.{Clash};
-ghost use Rattle.book.specs.Known.{largest, admitOf};
+ghost use Rattle.book.specs.Admitting.{admitOf};
 ghost use Rattle.book.specs.Seeing.{someSlot, Sees, Passes};
 use answer::Fault;
+use answer::LARGEST;
 use fill::BOOK;
 use fill::FILLS;
 use fill::ID;
@@ -60,8 +61,6 @@ struct Glance {
 
 // "512 fills, 128 orders".
 const MOST_ORDERS: u32 = 128;
-
-const MOST_COUNTED: u32 = 4294967295;
 
 // How many of count slots lie in the memory: those past its end are empty, and no search looks for one.
 fn inside(count: usize) -> usize
@@ -300,7 +299,7 @@ fn counted(orders: u32, known: &[u8]) -> u32
     if known.len() != 0 {
         return orders;
     }
-    if orders < MOST_COUNTED {
+    if orders < LARGEST {
         return orders + 1;
     }
     orders

@@ -278,8 +278,11 @@ fn line_text(n: u32, s: &[u8]) -> Text
     price.put(b' ').part(time_of(s), TIME).put(b'\n')
 }
 
+// No line is longer: "line buffer under 128 bytes".
+pub const LINE: usize = 128;
+
 // Writes the line of fill n from the front of `line`, and says how long it is; where it does not fit nothing changes, and
-// the answer is 0. It has at most 128 bytes.
+// the answer is 0. It has at most LINE bytes.
 pub fn write_line(n: u32, s: &[u8], line: &mut [u8]) -> usize
     ensures { λ r. ⌜ now (line .exit) ≡ splice (now (line .entry)) 0 (lineOf n (now (s .entry))) ⌝ }
     ensures { λ r. ⌜ r ≡ cond (fitsAt (now (line .entry)) 0 (lineOf n (now (s .entry)))) (length (lineOf n (now (s .entry)))) 0 ⌝ }

@@ -20,7 +20,7 @@ pub enum Verdict {
 }
 
 // "`8=FIX.4.2|`"; `|` is byte 1.
-const OPENING: [u8; 10] = [b'8', b'=', b'F', b'I', b'X', b'.', b'4', b'.', b'2', BAR];
+pub const OPENING: [u8; 10] = [b'8', b'=', b'F', b'I', b'X', b'.', b'4', b'.', b'2', BAR];
 
 const BAR: u8 = 1;
 

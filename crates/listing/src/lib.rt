@@ -10,6 +10,7 @@ ghost use Rattle.text.specs.Writing.{empty, puts};
 ghost use Rattle.note.specs.Notes.{written};
 ghost use Rattle.listing.specs.Listing.{contracts, linesFrom, firstOf, damaged, waitingPage, listing, bookListed};
 use fill::BOOK;
+use fill::LINE;
 use restart::Counts;
 use restart::Restarted;
 use text::Text;
@@ -65,7 +66,7 @@ fn sum_from(book: &[u8; BOOK], from: usize, fills: usize) -> u64
 fn put_line(page: &mut [u8], at: usize, n: u32, slot: &[u8]) -> usize
     ensures { λ r. ⌜ (now (page .exit) ≡ splice (now (page .entry)) at (lineOf n (now (slot .entry)))) × (r ≡ length (lineOf n (now (slot .entry)))) ⌝ }
 {
-    let mut line = [0u8; 128];
+    let mut line = [0u8; LINE];
     let len = fill::write_line(n, slot, &mut line);
     octet::copy_into(page, at, octet::part(&line, 0, len));
     len

@@ -7,7 +7,7 @@ use lib.ListN.{length, drop}
 use lib.Dec.{leb, ltb}
 use Rattle.octet.specs.Maybe.{first}
 use Rattle.octet.specs.Splice.{splice}
-use Rattle.fill.specs.Slot.{Slot, lineOf}
+use Rattle.fill.specs.Slot.{Slot, lineRoom, lineOf}
 use Rattle.note.specs.Notes.{Marks as MarksNote, noteBytes, longestNote}
 use Rattle.answer.specs.declared.Refusal.the-variants as refusal
 use Rattle.queue.specs.declared.Marks.{Marks}
@@ -29,7 +29,7 @@ ackedUpTo n m = record { fills = m .fills; orders = m .orders; acked = n; offere
 
 -- "1: .. note buffer under 102, or line buffer under 128 bytes"
 abbrev pub leastLine : ℕ
-leastLine = 128
+leastLine = lineRoom
 
 abbrev pub shortLine : ℕ → Bool
 shortLine len = ltb len leastLine

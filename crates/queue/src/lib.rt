@@ -5,6 +5,7 @@ ghost use Rattle.book.specs.Memory.{slotsIn};
 ghost use Rattle.queue.specs.Queue.{offeredUpTo, ackedUpTo, offered, lineAfter, begunAgain, acknowledgedBy, noteAfter, newDay};
 use answer::Refusal;
 use fill::BOOK;
+use fill::LINE;
 
 // How many fills and orders the day has, and the marks: the last fill acknowledged, and the last offered.
 pub struct Marks {
@@ -31,9 +32,6 @@ pub enum Day {
     Fresh(Marks),
     Refused(Refusal),
 }
-
-// "line buffer under 128 bytes".
-const LINE: usize = 128;
 
 impl Marks {
     // One mark moved.

@@ -18,7 +18,7 @@ use Rattle.octet.proofs.Lists.{drop-done, splice-in}
 use Rattle.fill.specs.Slot.{Slot, slotLawful, slotWidth, mostFills, bookWidth}
 use Rattle.book.specs.Memory.{slotsIn, appended}
 use Rattle.book.specs.Place.{place, isNew, knownOrder, ordersWith, hasRoom, mostOrders}
-use Rattle.book.specs.Known.{largest}
+use Rattle.answer.specs.Numbers.{largest}
 use Rattle.book.proofs.Slots.{slots-length, slots-append, appended-length, joined-slots, Wide, none-wide, more-wide, slots-joined}
 use Rattle.note.specs.Notes.{Note, Leaves, Books, Marks, Clears, Reading, Whole, Part, Unknown, readNote, taken}
 use Rattle.note.specs.Kept.{Kept, empty, bookable, top, lawful, after}

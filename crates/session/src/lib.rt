@@ -2,12 +2,14 @@
 use answer::Fault;
 use answer::Id;
 use answer::Kind;
+use answer::LARGEST;
 use answer::Outcome;
 use answer::Phase;
 use answer::Setup;
 use field::Scan;
 use field::TAGS;
 use table::Judgement;
+use table::TYPE;
 use value::Number;
 use wire::Reply;
 use wire::Say;
@@ -74,12 +76,7 @@ pub struct Findings {
     pub to: u32,
 }
 
-// The last number of four bytes, where E and O stop. Refusal 4 and step 1 come long before.
-const LAST_NUMBER: u32 = 4294967295;
-
-// The tags that the judging reads: the type, the number, the two IDs, `43=Y`, `123=Y`, the numbers of a Resend Request and of a Sequence Reset; and 112.
-const TYPE: u32 = 35;
-
+// The tags that the judging reads beside the type's: the number, the two IDs, `43=Y`, `123=Y`, the numbers of a Resend Request and of a Sequence Reset; and 112.
 const NUMBER: u32 = 34;
 
 const SENDER: u32 = 49;
@@ -101,15 +98,11 @@ const WORD: u32 = 112;
 // The last number that a message has.
 const LAST_SEQUENCE: u32 = 999_999_998;
 
-// A number counted on.
+// A number counted on; refusal 4 and step 1 come long before the largest.
 fn count_on(n: u32, k: u32) -> u32
     ensures { λ r. ⌜ r ≡ counted n k ⌝ }
 {
-    if LAST_NUMBER - n < k {
-        LAST_NUMBER
-    } else {
-        n + k
-    }
+    if LARGEST - n < k { LARGEST } else { n + k }
 }
 
 // What each of our own calls says.

@@ -2,6 +2,7 @@
 use Prim.Native.Nat.{ℕ, _+_}
 use mathlib.Core.Bool.{cond}
 use lib.Dec.{ltb}
+use Rattle.answer.specs.Numbers.{largest}
 use Rattle.answer.specs.declared.Outcome.{Outcome}
 use Rattle.answer.specs.declared.Outcome.the-variants as outcome
 use Rattle.tally.specs.declared.Tally.{Tally}
@@ -11,7 +12,7 @@ none-yet = record { booked = 0; already = 0; rejected = 0; garbled = 0 }
 
 -- "a count stops at 4,294,967,295"
 unfoldable pub up : ℕ → ℕ
-up n = cond (ltb n 4294967295) (n + 1) n
+up n = cond (ltb n largest) (n + 1) n
 
 abbrev pub oneBooked : Tally → Tally
 oneBooked t = record { booked = up (t .booked); already = t .already; rejected = t .rejected; garbled = t .garbled }

@@ -1,4 +1,5 @@
 // The tally: what the messages of a line came to, in four counts.
+use answer::LARGEST;
 use answer::Outcome;
 ghost use mathlib.Core.Path.{_≡_};
 ghost use Rattle.tally.specs.Tally.{up, none-yet, oneBooked, oneAlready, oneRejected, oneGarbled, tallied};
@@ -14,7 +15,7 @@ pub struct Tally {
 fn up(n: u32) -> u32
     ensures { λ r. ⌜ r ≡ up n ⌝ }
 {
-    if n < 4294967295 { n + 1 } else { n }
+    if n < LARGEST { n + 1 } else { n }
 }
 
 impl Tally {

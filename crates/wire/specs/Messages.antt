@@ -1,5 +1,5 @@
 -- "A message we write has 35, 34, 49 (ours), 56, 43 where said, 52 (the given time), 122 where said, then the other tags in the order this paper names them".
-use Prim.Native.Nat.{ℕ, _+_, min}
+use Prim.Native.Nat.{ℕ, _+_}
 use mathlib.Core.List.{List, [], _∷_, _++_}
 use mathlib.Core.Option.{Option, none, some}
 use mathlib.Core.Bool.{Bool, cond, not}
@@ -11,6 +11,7 @@ use Rattle.text.specs.Decimal.{decimal, checkSum}
 use Rattle.text.specs.Fields.{Field, _is_, fieldBytes, layout, said}
 use Rattle.frame.specs.Finding.{opening, trailerOf}
 use Rattle.answer.specs.Setup.{ours, theirs}
+use Rattle.answer.specs.Numbers.{counted}
 use Rattle.answer.specs.declared.Setup.{Setup}
 use Rattle.answer.specs.declared.Fault.{Fault}
 use Rattle.wire.specs.declared.Say.{Say}
@@ -101,7 +102,7 @@ messageOf setup o time word say = framed opening (layout (fieldsOf setup o time 
 -- ---- a reply: the messages one after another, O counted on (no further than a number of 4 bytes goes)
 
 abbrev pub numberAfter : ℕ → Say → ℕ
-numberAfter o say = min (o + uses say) 4294967295
+numberAfter o say = counted o (uses say)
 
 unfoldable pub replyOf : Setup → ℕ → List ℕ → List ℕ → Reply → List ℕ
 replyOf setup o time word Nothing = []

@@ -1,7 +1,9 @@
 // The messages that we write: what to say is an enum, and one function lays its fields out, whatever the opening.
 use answer::Fault;
 use answer::Id;
+use answer::LARGEST;
 use answer::Setup;
+use frame::OPENING;
 use text::Text;
 ghost use mathlib.Core.Path.{_≡_};
 ghost use mathlib.Core.List.{[], _∷_};
@@ -32,9 +34,7 @@ pub enum Reply {
     Two(Say, Say),
 }
 
-// "`8=FIX.4.2|`"; `|` is byte 1.
-const OPENING: [u8; 10] = [b'8', b'=', b'F', b'I', b'X', b'.', b'4', b'.', b'2', MARK];
-
+// `|`
 const MARK: u8 = 1;
 
 // A time has so many bytes; of a word that is repeated, 112 has at most so many, and a type (372) so many.
@@ -44,11 +44,8 @@ const MOST_WORD: usize = 32;
 
 const MOST_TYPE: usize = 3;
 
-// Two messages fit.
-const REPLY_ROOM: usize = 512;
-
-// The last number that O can be.
-const LAST_NUMBER: u32 = 4294967295;
+// "reply buffer under 512": two messages fit.
+pub const REPLY_ROOM: usize = 512;
 
 fn type_of(say: Say) -> u8
     ensures { λ r. ⌜ typeOf say ≡ r ∷ [] ⌝ }
@@ -193,7 +190,7 @@ fn uses(say: Say) -> u32
 fn number_after(o: u32, say: Say) -> u32
     ensures { λ r. ⌜ r ≡ numberAfter o say ⌝ }
 {
-    if o < LAST_NUMBER { o + uses(say) } else { o }
+    if o < LARGEST { o + uses(say) } else { o }
 }
 
 // Writes the messages of a reply from the buffer's start, and says where they end; nothing into a buffer under 512 bytes.

@@ -5,9 +5,9 @@ use lib.ListN.{drop}
 use Prim.Native.Nat.{_-_, _*_, _≤_}
 use Rattle.octet.specs.Places.{wordAt}
 use Rattle.octet.proofs.Lists.{part-sized}
+use Rattle.answer.specs.Numbers.{largest}
 use Rattle.fill.specs.Slot.{slotWidth, mostFills}
 use Rattle.book.specs.Memory.{slotsIn}
-use Rattle.book.specs.Known.{largest}
 use Rattle.book.specs.Seeing.{Sees}
 use Rattle.book.specs.declared.Seen.{Seen}
 use Rattle.book.proofs.Finds.{sees-none, sees-turn, sees-done}

@@ -7,7 +7,7 @@ use borrow.Author.Tests.{not-true, not-false}
 use denote.Ref.{now}
 use Rattle.book.specs.Memory.{slotsIn, appended}
 use Rattle.book.specs.Place.{isNew}
-use Rattle.book.specs.Known.{admitOf}
+use Rattle.book.specs.Admitting.{admitOf}
 use Rattle.book.specs.declared.Booking.{Booking}
 use Rattle.book.proofs.Placing.{admitted-clash, admitted-already, admitted-full, admitted-new, booking-orders}
 use Rattle.note.specs.Notes.{Books}

@@ -2,6 +2,7 @@
 use Prim.Native.Nat.{ℕ, min}
 use mathlib.Core.List.{List}
 use mathlib.Core.Bool.{cond}
+use Rattle.answer.specs.Numbers.{largest}
 use Rattle.fill.specs.Slot.{Slot}
 use Rattle.book.specs.Place.{place, hasRoom, ordersWith, inStep}
 use Rattle.book.specs.declared.Booking.{Booking}
@@ -10,11 +11,7 @@ use Rattle.book.specs.declared.Placed.the-variants.{Clash, Already, New}
 use Rattle.book.specs.declared.Admitted.{Admitted}
 use Rattle.book.specs.declared.Admitted.the-variants as admitted
 
--- what a booking changes and answers, by one look at the order. The count of orders stops at the largest number that the code has for it;
--- there is room for 128 only
-abbrev pub largest : ℕ
-largest = 4294967295
-
+-- what a booking changes and answers, by one look at the order. The count of orders stops where every count does; there is room for 128 only
 unfoldable pub bookingOf : List Slot → ℕ → Slot → Booking
 bookingOf ss orders f = record { orders = min (ordersWith ss orders f) largest; stepped = inStep ss f }
 
