@@ -3,14 +3,13 @@ use Prim.Native.Nat.{ℕ}
 use mathlib.Core.Path.{_≡_, sym, _∙_}
 use mathlib.Core.List.{List}
 use Rattle.octet.proofs.Unique.{Writes, one-writing}
-use Rattle.field.specs.Index.{indexOf}
 use Rattle.listing.proofs.Unique.{Listed, write-listing-one}
 use Rattle.receiver.specs.State.{Did}
 use Rattle.restart.specs.Restart.{restart, told, bookAfter}
 use Rattle.frame.specs.Finding.{foundIn}
 use Rattle.session.specs.declared.Verdict.{Verdict}
 use Rattle.book.specs.declared.Admitted.{Admitted}
-use Rattle.bench.specs.Timed.{Timed, wholeOf, lengthOf, verdictNumber, admittedNumber}
+use Rattle.bench.specs.Timed.{Timed, wholeOf, lengthOf, Indexed, verdictNumber, admittedNumber}
 
 -- r is the number; the book, the reply and the note at entry and at exit
 pub message-one : (d : Did) {r r′ : ℕ} {book book₁ book₂ reply reply₁ reply₂ note note₁ note₂ : List ℕ}
@@ -30,13 +29,10 @@ listing-one notes book out p q = write-listing-one notes book out p q
 pub find-one : (s : List ℕ) {r r′ : ℕ} → r ≡ lengthOf (foundIn s) → r′ ≡ lengthOf (foundIn s) → r ≡ r′
 find-one s p q = p ∙ sym q
 
-module _ (body : List ℕ) where
-  -- the three lists
-  abbrev pub Indexed : List ℕ → List ℕ → List ℕ → Type 0
-  Indexed s n c = (s ≡ indexOf body .start) × (n ≡ indexOf body .len) × (c ≡ indexOf body .count)
-
-  pub index-one : {s s′ n n′ c c′ : List ℕ} → Indexed s n c → Indexed s′ n′ c′ → (s ≡ s′) × (n ≡ n′) × (c ≡ c′)
-  index-one p q = (p .0 ∙ sym (q .0), p .1 ∙ sym (q .1), p .2 ∙ sym (q .2))
+-- the number and the three lists
+pub index-one : (body : List ℕ) {r r′ : ℕ} {s s′ n n′ c c′ : List ℕ} → Indexed body r s n c → Indexed body r′ s′ n′ c′
+    → (r ≡ r′) × (s ≡ s′) × (n ≡ n′) × (c ≡ c′)
+index-one body p q = (p .fault ∙ sym (q .fault), p .starts ∙ sym (q .starts), p .lens ∙ sym (q .lens), p .counts ∙ sym (q .counts))
 
 pub judge-one : (v : Verdict) {r r′ : ℕ} → r ≡ verdictNumber v → r′ ≡ verdictNumber v → r ≡ r′
 judge-one v p q = p ∙ sym q

@@ -5,6 +5,7 @@ use answer::Outcome;
 use answer::Phase;
 use answer::Setup;
 use book::Admitted;
+use field::Scan;
 use field::TAGS;
 use fill::BOOK;
 use frame::Found;
@@ -19,7 +20,6 @@ use tally::Tally;
 ghost use mathlib.Core.Path.{_≡_};
 ghost use lib.ListN.{length};
 ghost use Rattle.octet.specs.Splice.{splice};
-ghost use Rattle.field.specs.Index.{indexOf};
 ghost use Rattle.field.specs.Pieces.{piecesOf};
 ghost use Rattle.session.specs.Judging.{judge};
 ghost use Rattle.book.specs.Memory.{slotsIn};
@@ -31,7 +31,7 @@ ghost use Rattle.listing.specs.Listing.{listing, bookListed};
 ghost use Rattle.receiver.specs.State.{seen};
 ghost use Rattle.receiver.specs.Receiver.{does, Message};
 ghost use Rattle.receiver.specs.Steps.{lentTo};
-ghost use Rattle.bench.specs.Timed.{agreed, online, outcomeNumber, answerNumber, wordOf, Timed, wholeOf, lengthOf, verdictNumber, admittedNumber};
+ghost use Rattle.bench.specs.Timed.{agreed, online, outcomeNumber, answerNumber, wordOf, Timed, wholeOf, lengthOf, Indexed, verdictNumber, admittedNumber};
 
 fn outcome_number(outcome: Outcome) -> u8
     ensures { λ r. ⌜ r ≡ outcomeNumber outcome ⌝ }
@@ -179,23 +179,21 @@ pub extern "C" fn bench_find(bytes: &[u8]) -> usize
     }
 }
 
-// The index of a body, its lists handed out.
+// The index of a body. It answers how its first fault is numbered: 0 none, 1 a piece that is no field, 2 a field without a value.
 #[no_mangle]
 pub extern "C" fn bench_index(
     body: &[u8],
     start: &mut [usize; TAGS],
     len: &mut [usize; TAGS],
     count: &mut [u8; TAGS],
-)
-    ensures { λ r. ⌜ (now (start .exit) ≡ indexOf (now (body .entry)) .start) × (now (len .exit) ≡ indexOf (now (body .entry)) .len) × (now (count .exit) ≡ indexOf (now (body .entry)) .count) ⌝ }
+) -> u8
+    ensures { λ r. ⌜ Indexed (now (body .entry)) r (now (start .exit)) (now (len .exit)) (now (count .exit)) ⌝ }
 {
-    let ix = field::indexed(body);
-    let starts = ix.start;
-    let lens = ix.len;
-    let counts = ix.count;
-    *start = starts;
-    *len = lens;
-    *count = counts;
+    match field::index_into(body, start, len, count) {
+        Scan::Sound => 0,
+        Scan::Malformed => 1,
+        Scan::Empty(_) => 2,
+    }
 }
 
 // The index and the judging of a body, by a session in phase 2 that expects e.
@@ -213,9 +211,11 @@ pub extern "C" fn bench_judge(
     let setup = agreed(*ours, n, *theirs, k);
     let st = online(e, 0, 0);
     let session = st.session;
-    let ix = field::indexed(body);
-    let scan = ix.scan;
-    let found = session::findings_of(setup, session, body, scan, &ix.start, &ix.len, &ix.count);
+    let mut starts = [0usize; TAGS];
+    let mut lens = [0usize; TAGS];
+    let mut counts = [0u8; TAGS];
+    let scan = field::index_into(body, &mut starts, &mut lens, &mut counts);
+    let found = session::findings_of(setup, session, body, scan, &starts, &lens, &counts);
     match session.judge(found) {
         Verdict::Settled(j) => {
             let outcome = j.outcome;

@@ -19,12 +19,11 @@ use Rattle.octet.specs.Maybe.{isNone, unless, first}
 use Rattle.octet.proofs.Cases.{and-both, ap-cond}
 use Rattle.field.specs.Pieces.{Pieces, piecesOf, valuesOf, firstOf, isThat, has, textAt, scanOf}
 use Rattle.field.specs.Stands.{located, placeFrom, placeOf}
-use Rattle.field.specs.Index.{listed, columnCount, position, columnOf, startIn, lenIn, countOf, indexOf, valueIn, countIn, Columns, columns, notedAt, noted}
+use Rattle.field.specs.Index.{listed, columnCount, position, columnOf, startIn, lenIn, countOf, indexOf, valueIn, countIn, Columns, columns, notedAt, noted, Index}
 use Rattle.field.specs.declared.Place.{Place}
 use Rattle.field.specs.declared.Place.the-variants.{At, Missing}
 use Rattle.field.specs.declared.Piece.{Piece}
 use Rattle.field.specs.declared.Piece.the-variants.{Field, Stray}
-use Rattle.field.specs.declared.Index.{Index}
 use Rattle.field.specs.declared.Scan.{Scan}
 use Rattle.field.proofs.Cuts.{hitsIn, count-at, partBy, value-at}
 

@@ -1,20 +1,24 @@
 -- No second answer satisfies a promise of this crate: each is an equation with a definition.
-use mathlib.Core.Path.{_≡_, sym, _∙_}
+use mathlib.Core.Path.{_≡_, sym, _∙_, ap}
 use mathlib.Core.List.{List}
 use Prim.Native.Nat.{ℕ}
 use Rattle.field.specs.Pieces.{piecesOf}
 use Rattle.field.specs.Stands.{placeOf}
-use Rattle.field.specs.Index.{countOf, indexOf, valueIn, countIn}
+use Rattle.field.specs.Index.{countOf, Index, indexFrom, indexOf, valueIn, countIn}
 use Rattle.field.specs.declared.Place.{Place}
-use Rattle.field.specs.declared.Index.{Index}
+use Rattle.field.specs.declared.Scan.{Scan}
 
 -- the shape that all of them have
 once : {A : Type 0} {a b d : A} → a ≡ d → b ≡ d → a ≡ b
 once p q = p ∙ sym q
 
 module _ (body : List ℕ) where
-  pub indexed-once : (r r′ : Index) → r ≡ indexOf body → r′ ≡ indexOf body → r ≡ r′
-  indexed-once r r′ p q = once p q
+  -- the answer and the three lists
+  pub index-into-once : (r r′ : Scan) (start start′ len len′ count count′ : List ℕ) → indexFrom r start len count ≡ indexOf body
+      → indexFrom r′ start′ len′ count′ ≡ indexOf body → (r ≡ r′) × (start ≡ start′) × (len ≡ len′) × (count ≡ count′)
+  index-into-once r r′ start start′ len len′ count count′ p q =
+      let e = once p q in
+      (ap (λ (x : Index). x .scan) e, ap (λ (x : Index). x .start) e, ap (λ (x : Index). x .len) e, ap (λ (x : Index). x .count) e)
 
   module _ (tag : ℕ) where
     pub first-once : (r r′ : Place) → r ≡ placeOf tag body → r′ ≡ placeOf tag body → r ≡ r′

@@ -11,7 +11,7 @@ use Rattle.field.specs.declared.Place.{Place}
 use Rattle.field.specs.declared.Place.the-variants.{At, Missing}
 use Rattle.field.specs.declared.Piece.{Piece}
 use Rattle.field.specs.declared.Piece.the-variants.{Field, Stray}
-use Rattle.field.specs.declared.Index.{Index}
+use Rattle.field.specs.declared.Scan.{Scan}
 
 -- the tags that the index keeps, in the order of their columns: those of the header and of the tables
 unfoldable pub listed : List ℕ
@@ -44,6 +44,17 @@ lenIn (At s n) = n
 -- how often a tag stands, 2 for more than once
 unfoldable pub countOf : ℕ → Pieces → ℕ
 countOf tag ps = min 2 (length (valuesOf tag ps))
+
+-- the index of a body, by columns, with the scan of step 5
+pub record Index : Type 0 where
+  pub start : List ℕ
+  pub len : List ℕ
+  pub count : List ℕ
+  pub scan : Scan
+
+-- by its scan and its lists, as they are lent
+abbrev pub indexFrom : Scan → List ℕ → List ℕ → List ℕ → Index
+indexFrom scan start len count = record { start = start; len = len; count = count; scan = scan }
 
 unfoldable pub indexOf : List ℕ → Index
 indexOf body =

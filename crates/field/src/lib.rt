@@ -11,7 +11,7 @@ ghost use lib.ListN.{length};
 ghost use Rattle.text.specs.Decimal.{digitRun, digitsAtFront};
 ghost use Rattle.field.specs.Pieces.{piecesOf, tagged, textAt, andThen};
 ghost use Rattle.field.specs.Stands.{stepOf, placeOf, faultOf, hits};
-ghost use Rattle.field.specs.Index.{columnOf, countOf, indexOf, valueIn, countIn, columns, notedAt, noted};
+ghost use Rattle.field.specs.Index.{columnOf, countOf, indexOf, indexFrom, valueIn, countIn, columns, notedAt, noted};
 
 // The first fault of the pieces of a body: none, a piece that is no field, or a field without a value, by its tag.
 pub enum Scan {
@@ -40,15 +40,6 @@ struct Step {
 
 // The index keeps so many tags.
 pub const TAGS: usize = 29;
-
-// Of each listed tag where the value of its first field stands (0 and 0 where there is none) and how often the tag stands
-// (2 for more than once), and the first fault of all pieces.
-pub struct Index {
-    pub start: [usize; TAGS],
-    pub len: [usize; TAGS],
-    pub count: [u8; TAGS],
-    pub scan: Scan,
-}
 
 // `|`
 const MARK: u8 = 1;
@@ -233,13 +224,19 @@ fn note(start: &mut [usize; TAGS], len: &mut [usize; TAGS], count: &mut [u8; TAG
     }
 }
 
-// The index of a body, in one pass from piece to piece.
-pub fn indexed(body: &[u8]) -> Index
-    ensures { λ r. ⌜ r ≡ indexOf (now (body .entry)) ⌝ }
+// The index of a body, in one pass from piece to piece: of each listed tag where the value of its first field stands (0 and 0
+// where there is none) and how often the tag stands (2 for more than once), in the lists that are lent, and the first fault of all pieces.
+pub fn index_into(
+    body: &[u8],
+    start: &mut [usize; TAGS],
+    len: &mut [usize; TAGS],
+    count: &mut [u8; TAGS],
+) -> Scan
+    ensures { λ r. ⌜ indexFrom r (now (start .exit)) (now (len .exit)) (now (count .exit)) ≡ indexOf (now (body .entry)) ⌝ }
 {
-    let mut start = [0usize; TAGS];
-    let mut len = [0usize; TAGS];
-    let mut count = [0u8; TAGS];
+    *start = [0usize; TAGS];
+    *len = [0usize; TAGS];
+    *count = [0u8; TAGS];
     let mut scan = Scan::Sound;
     let mut i = 0;
     while i < body.len() {
@@ -247,15 +244,10 @@ pub fn indexed(body: &[u8]) -> Index
         let piece = here.piece;
         let fault = fault_of(piece);
         scan = and_then(scan, fault);
-        note(&mut start, &mut len, &mut count, piece);
+        note(start, len, count, piece);
         i = here.next;
     }
-    Index {
-        start,
-        len,
-        count,
-        scan,
-    }
+    scan
 }
 
 // Where the value of the first field of a tag stands.

@@ -3,7 +3,7 @@
 --     settled-entered     what a message writes that the session settles
 --     filled-clash, filled-already, filled-full, filled-new     a fill among the day's, by the book's answer
 --     ruled-faulty, ruled-aside, ruled-fill     a report, by what it says
---     type-read, reported-read, slot-read     what is read of a report by the index of its body
+--     type-read, reported-read, slot-read, own-lists     what is read of a report by the index of its body
 --     report-small, framed-settled, framed-report     a framed message, by what the session says
 --     heard-more, heard-garbled, heard-framed     a message, by what is found
 --     taken-refused, taken-granted     the call
@@ -24,8 +24,8 @@ use Rattle.octet.proofs.Lists.{splice-nil}
 use Rattle.frame.specs.Finding.{foundIn, bodyIn}
 use Rattle.frame.specs.declared.Found.the-variants as found
 use Rattle.field.specs.Pieces.{Pieces, piecesOf, textAt}
-use Rattle.field.specs.Index.{indexOf, valueIn}
-use Rattle.field.specs.declared.Index.{Index}
+use Rattle.field.specs.Index.{indexOf, valueIn, Index, indexFrom}
+use Rattle.field.specs.declared.Scan.{Scan}
 use Rattle.field.proofs.IndexLaws.{value-law}
 use Rattle.fill.specs.Slot.{Slot, slotWidth, bookWidth, mostFills}
 use Rattle.book.specs.Memory.{slotsIn, appended}
@@ -52,7 +52,6 @@ use Rattle.session.specs.declared.Verdict.{Verdict}
 use Rattle.session.specs.declared.Verdict.the-variants as verdict
 use Rattle.session.proofs.IndexLaws.{judge-by}
 use Rattle.session.proofs.Turns.{judge-report}
-use Rattle.table.specs.Indexed.{indexFrom}
 use Rattle.tally.specs.declared.Tally.{Tally}
 use Rattle.answer.specs.Numbers.{largest}
 use Rattle.answer.specs.declared.Setup.{Setup}
@@ -217,6 +216,11 @@ module _ (body start len count : List ℕ) (own : indexOf body ≡ indexFrom (in
   pub slot-read : slotFor (textBy body (indexFrom (indexOf body .scan) start len count)) ≡ slotIn (piecesOf body)
   slot-read = ap (λ (x : Index). slotFor (textBy body x)) (sym own) ∙ slot-law body
 
+-- the lists that were lent are the index's own
+pub own-lists : (body : List ℕ) {scan : Scan} {start len count : List ℕ} → indexFrom scan start len count ≡ indexOf body
+    → indexOf body ≡ indexFrom (indexOf body .scan) start len count
+own-lists body {start = start} {len = len} {count = count} e = sym e ∙ ap (λ (q : Scan). indexFrom q start len count) (ap (λ (x : Index). x .scan) e)
+
 -- ---- a framed message, by what the session says
 module _ (setup : Setup) (st : Stored) (m body : List ℕ) {ix : Index} (own : ix ≡ indexOf body) {fs : Facts} (read : fs ≡ factsBy setup (st .session) body ix) where
   says : {v : Verdict} → v ≡ session.judgedBy (st .session) fs → judge setup (st .session) (piecesOf body) ≡ v
@@ -227,13 +231,13 @@ module _ (setup : Setup) (st : Stored) (m body : List ℕ) {ix : Index} (own : i
   report-small n e = let t = judge-report setup (st .session) (piecesOf body) n (says e) in omega (arith, t .number, t .most)
 
   module _ (time : List ℕ) (len : ℕ) where
-    pub framed-settled : {word reply reply′ note note′ : List ℕ} {t : Told} (j : Judged) → verdict.Settled j ≡ session.judgedBy (st .session) fs → word ≡ valueIn body (ix .start) (ix .len) (wordTag (j .reply))
-        → Answered setup st time len word j t reply reply′ note note′
+    pub framed-settled : {word reply reply′ note note′ : List ℕ} {t : Told} (j : Judged) {tag : ℕ} → verdict.Settled j ≡ session.judgedBy (st .session) fs
+        → word ≡ valueIn body (ix .start) (ix .len) tag → tag ≡ wordTag (j .reply) → Answered setup st time len word j t reply reply′ note note′
         → Entered (framed setup (seen st m) time len (piecesOf body)) t m m reply reply′ note note′
     unfolding framed judgedBy seen
-    framed-settled j e f w =
-        rw (says e)
-        (w m (piecesOf body) (f ∙ ap (λ (i : Index). valueIn body (i .start) (i .len) (wordTag (j .reply))) own ∙ value-law body (wordTag (j .reply))))
+    framed-settled j {tag} e f g w =
+        let h = f ∙ ap (λ (i : Index). valueIn body (i .start) (i .len) tag) own ∙ value-law body tag ∙ ap (λ (k : ℕ). textAt k (piecesOf body)) g in
+        rw (says e) (w m (piecesOf body) h)
 
     pub framed-report : {m′ reply reply′ note note′ : List ℕ} {t : Told} (n : ℕ) → verdict.Report n ≡ session.judgedBy (st .session) fs
         → Entered (ruled setup (seen st m) time len (piecesOf body) n (reportedIn (piecesOf body))) t m m′ reply reply′ note note′

@@ -38,9 +38,8 @@ ghost use Rattle.book.specs.Memory.{slotsIn};
 ghost use Rattle.book.specs.Place.{place, hasRoom};
 ghost use Rattle.book.specs.Admitting.{bookingOf};
 ghost use Rattle.report.specs.Report.{reportedIn, slotIn};
-ghost use Rattle.table.specs.Indexed.{indexFrom};
+ghost use Rattle.field.specs.Index.{indexFrom, indexOf};
 ghost use Rattle.field.specs.Pieces.{Pieces, piecesOf, textAt};
-ghost use Rattle.field.specs.Index.{indexOf};
 ghost use Rattle.receiver.specs.State.{woken, stored, seen, noteOfChange, bytesOfNote, toldOf, lineAfter, bookAfter};
 ghost use Rattle.receiver.specs.Receiver.{goodId, setupWith, settingUp, writing, Lent, does, call, tallyAfter, Own-call, Line-lost, Message, Begin-again, Acknowledge, New-day, Restart};
 ghost use Rattle.receiver.specs.Receiver as what;
@@ -690,13 +689,15 @@ fn framed(
     ensures { λ r. ⌜ Entered (framed setup (seen st (now (book .entry))) (now (time .entry)) len (piecesOf (now (body .entry)))) r (now (book .entry)) (now (book .exit)) (now (reply .entry)) (now (reply .exit)) (now (note .entry)) (now (note .exit)) ⌝ }
 {
     let session = st.session;
-    let ix = field::indexed(body);
-    let scan = ix.scan;
-    let found = session::findings_of(setup, session, body, scan, &ix.start, &ix.len, &ix.count);
+    let mut starts = [0usize; TAGS];
+    let mut lens = [0usize; TAGS];
+    let mut counts = [0u8; TAGS];
+    let scan = field::index_into(body, &mut starts, &mut lens, &mut counts);
+    let found = session::findings_of(setup, session, body, scan, &starts, &lens, &counts);
     match session.judge(found) {
         Verdict::Settled(j) => {
             let says = j.reply;
-            let word = field::value_at(body, &ix.start, &ix.len, session::word_tag(says));
+            let word = field::value_at(body, &starts, &lens, session::word_tag(says));
             settled(setup, st, time, len, word, j, reply, note)
         }
         Verdict::Report(n) => reported(
@@ -706,9 +707,9 @@ fn framed(
             len,
             n,
             body,
-            &ix.start,
-            &ix.len,
-            &ix.count,
+            &starts,
+            &lens,
+            &counts,
             book,
             reply,
             note,

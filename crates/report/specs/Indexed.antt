@@ -5,8 +5,7 @@ use mathlib.Core.Bool.{Bool, not, Bool·beq}
 use lib.Dec.{eqb}
 use Rattle.octet.specs.Bytes.{between, same, is}
 use Rattle.value.specs.Value.{numberOr}
-use Rattle.field.specs.Index.{valueIn, countIn}
-use Rattle.field.specs.declared.Index.{Index}
+use Rattle.field.specs.Index.{valueIn, countIn, Index}
 use Rattle.report.specs.declared.Reported.{Reported}
 use Rattle.report.specs.declared.Sums.{Sums}
 use Rattle.report.specs.Report.{Report, reportOf, firstBroken, afterRules}

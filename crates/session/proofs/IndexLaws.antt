@@ -4,8 +4,7 @@ use mathlib.Core.List.{List}
 use mathlib.Core.Option.{Option}
 use Prim.Native.Nat.{ℕ}
 use Rattle.field.specs.Pieces.{piecesOf, firstOf}
-use Rattle.field.specs.Index.{indexOf}
-use Rattle.field.specs.declared.Index.{Index}
+use Rattle.field.specs.Index.{indexOf, Index}
 use Rattle.field.proofs.IndexLaws.{value-law, first-law}
 use Rattle.table.specs.Rows.{kindOf, kindIn}
 use Rattle.table.specs.Steps.{numberAt, faultIn}

@@ -18,7 +18,7 @@ use Rattle.value.specs.declared.Number.{Number}
 use Rattle.value.specs.declared.Number.the-variants as number
 use Rattle.value.proofs.Numbers.{number-good, number-or-small}
 use Rattle.field.specs.Pieces.{Pieces, firstOf}
-use Rattle.field.specs.declared.Index.{Index}
+use Rattle.field.specs.Index.{Index}
 use Rattle.table.specs.Rows.{kindIn}
 use Rattle.table.specs.Steps.{faultIn}
 use Rattle.answer.specs.Numbers.{fault, inside, isKind}

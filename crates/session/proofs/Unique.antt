@@ -9,7 +9,7 @@ use borrow.Author.Tests.{eqb-true}
 use Rattle.octet.specs.Maybe.{unless}
 use Rattle.octet.proofs.Cases.{of-cond, ap-cond}
 use Rattle.field.specs.declared.Scan.{Scan}
-use Rattle.table.specs.Indexed.{indexFrom}
+use Rattle.field.specs.Index.{indexFrom}
 use Rattle.table.proofs.Unique.{fault-of-once}
 use Rattle.answer.specs.declared.Setup.{Setup}
 use Rattle.answer.specs.declared.Fault.{Fault}

@@ -4,8 +4,7 @@ use mathlib.Core.List.{List}
 use mathlib.Core.Option.{Option, none, some}
 use mathlib.Core.Bool.{cond}
 use lib.Dec.{eqb}
-use Rattle.field.specs.Index.{valueIn, countIn}
-use Rattle.field.specs.declared.Index.{Index}
+use Rattle.field.specs.Index.{valueIn, countIn, Index}
 use Rattle.table.specs.Rows.{kindOf}
 use Rattle.table.specs.Steps.{faultOf}
 use Rattle.table.specs.Indexed.{numberIn, faultBy}

@@ -10,7 +10,8 @@ use Rattle.table.specs.declared.Judgement.{Judgement}
 use Rattle.table.specs.declared.Judgement.the-variants.{Fine, Faulty}
 use Rattle.table.specs.Rows.{kindOf}
 use Rattle.table.specs.Steps.{faultOf}
-use Rattle.table.specs.Indexed.{numberIn, indexFrom, faultBy}
+use Rattle.field.specs.Index.{indexFrom}
+use Rattle.table.specs.Indexed.{numberIn, faultBy}
 
 pub kind-of-once : (setup : Setup) (t : List ℕ) (r r′ : Kind) → r ≡ kindOf setup t → r′ ≡ kindOf setup t → r ≡ r′
 kind-of-once setup t r r′ p q = p ∙ sym q

@@ -4,9 +4,7 @@ use mathlib.Core.List.{List}
 use mathlib.Core.Option.{Option}
 use lib.ListN.{replicate}
 use Rattle.value.specs.Value.{numberOr}
-use Rattle.field.specs.Index.{valueIn, countIn}
-use Rattle.field.specs.declared.Index.{Index}
-use Rattle.field.specs.declared.Scan.{Scan}
+use Rattle.field.specs.Index.{valueIn, countIn, Index}
 use Rattle.answer.specs.declared.Setup.{Setup}
 use Rattle.answer.specs.declared.Phase.{Phase}
 use Rattle.answer.specs.declared.Fault.{Fault}
@@ -23,10 +21,6 @@ atIndex body start len count = record {
   values = λ (tag : ℕ). replicate (countIn body count tag) (valueIn body start len tag);
   number = λ (tag : ℕ). numberIn body start len tag;
 }
-
--- an index by its scan and its lists, as they are lent
-abbrev pub indexFrom : Scan → List ℕ → List ℕ → List ℕ → Index
-indexFrom scan start len count = record { start = start; len = len; count = count; scan = scan }
 
 unfoldable pub faultBy : Setup → Phase → ℕ → List ℕ → Index → Option Fault
 faultBy setup phase o body ix =

@@ -20,7 +20,8 @@ ghost use Rattle.answer.specs.Numbers.{fault};
 ghost use Rattle.table.specs.declared.Form.the-variants as form;
 ghost use Rattle.table.specs.Rows.{headerRows, rowsOf, cellOf, kindOf};
 ghost use Rattle.table.specs.Steps.{inRange, valueCheck, rowFaultAt, walk, kindFault, faultOf};
-ghost use Rattle.table.specs.Indexed.{numberIn, atIndex, indexFrom, faultBy};
+ghost use Rattle.field.specs.Index.{indexFrom};
+ghost use Rattle.table.specs.Indexed.{numberIn, atIndex, faultBy};
 
 // The form of a value: digits; a price; a UTC time; a text of any bytes, and one of bytes 33 to 126; one of two bytes.
 pub enum Form {

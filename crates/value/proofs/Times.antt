@@ -5,26 +5,24 @@
 --     time-filled, time-full     a time of 17 bytes with .000 after it is a time, of 21 bytes
 use mathlib.Core.Path.{_≡_, refl, sym, ap, _∙_}
 use mathlib.Core.Logic.{_⊎_, ⊎-elim, inl, inr}
-use mathlib.Core.List.{List, _++_, append-nil}
+use mathlib.Core.List.{List, [], _∷_, _++_}
 use mathlib.Core.Option.{Option, none, some}
 use mathlib.Core.Bool.{true, false, cond}
-use Prim.Native.Nat.{ℕ, _+_, _≤_}
+use Prim.Native.Nat.{ℕ, _+_, _-_, _*_, _≤_, _<_}
 use native.Mathlib.Omega.{arith}
-use lib.ListN.{length, length-append, length-take, drop}
+use lib.ListN.{length, length-append, drop, getD}
 use lib.Dec.{eqb}
 use borrow.Author.Tests.{eqb-true, eq-eqb}
 use Rattle.octet.specs.Bytes.{bytesOf, allIn, part}
 use Rattle.octet.specs.Maybe.{isNone}
 use Rattle.octet.proofs.Cases.{of-cond, contrary, cond-true, and-both, and-make, or-cases}
-use Rattle.octet.proofs.Lists.{part-first}
-use Rattle.text.specs.Decimal.{digits, digitsAtFront}
-use Rattle.text.specs.declared.Digits.{Digits}
-use Rattle.text.proofs.ReadLaws.{front-digits}
+use Rattle.octet.proofs.Lists.{part-first, drop-step}
+use Rattle.text.specs.Decimal.{digits}
 use Rattle.value.specs.Value.{wellFormed, likeRun, timePattern, timeLong, badTime, isDay, isClock, numberOn, timeFits, isTime}
 use Rattle.value.specs.Readers.{checked, timeChecked}
 use Rattle.value.specs.declared.Check.the-variants.{Good, BadForm, OutOfRange}
 use Rattle.value.proofs.Forms.{form-short, form-part, form-well, form-good, checked-good, checked-bad, checked-out}
-use Rattle.value.proofs.Like.{like-digits, like-append}
+use Rattle.value.proofs.Like.{like-append}
 
 -- ---- form, and then range
 module _ (v : List ℕ) (good : ℕ) (e : good ≡ likeRun timePattern v) where
@@ -49,28 +47,28 @@ pub time-ranged : (v : List ℕ) → badTime v ≡ none → timeChecked v ≡ co
 unfolding timeChecked
 time-ranged v e = ap (λ (o : Option ℕ). checked o (timeFits v)) e
 
--- ---- where a value is formed as a time, the digits at a place are read whole
-pub number-at : (at n : ℕ) (v : List ℕ) → badTime v ≡ none → n ≤ 9 → allIn 48 57 (part at n timePattern) ≡ true
-    → digitsAtFront n (part at n v) .value ≡ numberOn at n v
-unfolding badTime
-number-at at n v e l h =
-    let s = part at n v in
-    let g = form-good v (likeRun timePattern v) (timeLong (length v)) e .0 in
-    let m : length s ≤ n = rw (length-take n (drop at v)) (omega arith) in
-    ap (λ (x : List ℕ). digitsAtFront n x .value) (sym (append-nil s))
-    ∙ ap (λ (d : Digits). d .value) (front-digits n s _ (like-digits at n timePattern v g h) refl m (omega arith))
+-- ---- the number of two digits, and of four, from their bytes
+module _ (v : List ℕ) (at : ℕ) where
+  pair-part : at + 2 ≤ length v → part at 2 v ≡ getD v at 0 ∷ getD v (at + 1) 0 ∷ []
+  pair-part h =
+      let a : at < length v = omega arith in
+      let b : at + 1 < length v = omega arith in
+      rw (drop-step v at a, drop-step v (at + 1) b)
 
--- the day and the clock of what was read at their places
-module _ (v : List ℕ) (e : badTime v ≡ none) where
-  pub day-read : (y m d : ℕ) → y ≡ digitsAtFront 4 (part 0 4 v) .value → m ≡ digitsAtFront 2 (part 4 2 v) .value → d ≡ digitsAtFront 2 (part 6 2 v) .value
-      → isDay y m d ≡ isDay (numberOn 0 4 v) (numberOn 4 2 v) (numberOn 6 2 v)
-  day-read y m d p q r =
-      rw (p ∙ number-at 0 4 v e (omega arith) refl, q ∙ number-at 4 2 v e (omega arith) refl, r ∙ number-at 6 2 v e (omega arith) refl)
+  pub pair-at : at + 2 ≤ length v → (getD v at 0 - 48) * 10 + (getD v (at + 1) 0 - 48) ≡ numberOn at 2 v
+  pair-at h = sym (ap digits (pair-part h) ∙ omega arith)
 
-  pub clock-read : (h m s : ℕ) → h ≡ digitsAtFront 2 (part 9 2 v) .value → m ≡ digitsAtFront 2 (part 12 2 v) .value → s ≡ digitsAtFront 2 (part 15 2 v) .value
-      → isClock h m s ≡ isClock (numberOn 9 2 v) (numberOn 12 2 v) (numberOn 15 2 v)
-  clock-read h m s p q r =
-      rw (p ∙ number-at 9 2 v e (omega arith) refl, q ∙ number-at 12 2 v e (omega arith) refl, r ∙ number-at 15 2 v e (omega arith) refl)
+pub year-at : (v : List ℕ) → 4 ≤ length v → numberOn 0 2 v * 100 + numberOn 2 2 v ≡ numberOn 0 4 v
+year-at [] h = absurd (omega arith)
+year-at (a ∷ []) h = absurd (omega arith)
+year-at (a ∷ b ∷ []) h = absurd (omega arith)
+year-at (a ∷ b ∷ c ∷ []) h = absurd (omega arith)
+year-at (a ∷ b ∷ c ∷ d ∷ v) h = omega arith
+
+-- the day by the pairs of its digits
+pub day-read : (v : List ℕ) → 17 ≤ length v → (c y m d : ℕ) → c ≡ numberOn 0 2 v → y ≡ numberOn 2 2 v → m ≡ numberOn 4 2 v → d ≡ numberOn 6 2 v
+    → isDay (c * 100 + y) m d ≡ isDay (numberOn 0 4 v) (numberOn 4 2 v) (numberOn 6 2 v)
+day-read v h c y m d ec ey em ed = rw (ec, ey, em, ed, year-at v (omega arith)) refl
 
 -- ---- what it means that a time was read
 pub time-lengths : (v : List ℕ) → badTime v ≡ none → (length v ≡ 17) ⊎ (length v ≡ 21)
@@ -78,6 +76,9 @@ unfolding badTime
 time-lengths v e =
     ⊎-elim (λ p. inl (eqb-true (length v) 17 p)) (λ p. inr (eqb-true (length v) 21 p))
     (or-cases (eqb (length v) 17) (eqb (length v) 21) (form-good v (likeRun timePattern v) (timeLong (length v)) e .1))
+
+pub time-least : (v : List ℕ) → badTime v ≡ none → 17 ≤ length v
+time-least v e = ⊎-elim (λ p. omega arith) (λ p. omega arith) (time-lengths v e)
 
 pub record TimeGood (v : List ℕ) : Type 0 where
   pub formed : badTime v ≡ none

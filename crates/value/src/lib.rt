@@ -1,10 +1,10 @@
 // Readers of a field's value. Form is judged before range; a bad form says how much of the value was well formed.
 ghost use mathlib.Core.Path.{_≡_};
 ghost use mathlib.Core.Option.{none};
-ghost use Prim.Native.Nat.{_-_, _^_, _≤_};
-ghost use Rattle.octet.specs.Bytes.{between, part};
-ghost use Rattle.text.specs.Decimal.{digitsAtFront};
-ghost use Rattle.value.specs.Value.{numberOr, pointAt, priceIn, likeByte, likeRun, timePattern, timeLong, badTime, leap, daysIn, isDay, isClock, timeFits};
+ghost use Prim.Native.Nat.{_+_, _-_, _^_, _≤_};
+ghost use lib.ListN.{length};
+ghost use Rattle.octet.specs.Bytes.{between};
+ghost use Rattle.value.specs.Value.{numberOr, pointAt, priceIn, likeByte, likeRun, timePattern, timeLong, leap, daysIn, isDay, isClock, numberOn, timeFits};
 ghost use Rattle.value.specs.Readers.{checked, numberRead, NumberFits, priceFront, priceRead, PriceFits, graphChecked, textChecked, codeChecked, timeChecked};
 
 pub enum Number {
@@ -267,16 +267,16 @@ fn is_like(pattern: u8, b: u8) -> bool
     b <= b'9'
 }
 
-// How far a value is like a time.
-fn like_time(v: &[u8]) -> usize
-    ensures { λ r. ⌜ r ≡ likeRun timePattern (now (v .entry)) ⌝ }
+// How far a value is like a pattern.
+fn like_run(pattern: &[u8], v: &[u8]) -> usize
+    ensures { λ r. ⌜ r ≡ likeRun (now (pattern .entry)) (now (v .entry)) ⌝ }
 {
     let mut i = 0;
     while i < v.len() {
-        if TIME.len() <= i {
+        if pattern.len() <= i {
             return i;
         }
-        if !is_like(TIME[i], v[i]) {
+        if !is_like(pattern[i], v[i]) {
             return i;
         }
         i += 1;
@@ -294,30 +294,40 @@ fn is_time_long(n: usize) -> bool
     n == 21
 }
 
-// The number of the n digits at a place.
-fn number_on(v: &[u8], at: usize, n: usize) -> u32
-    ensures { λ r. ⌜ r ≡ digitsAtFront n (part at n (now (v .entry))) .value ⌝ }
+fn digit_of(b: u8) -> u32
+    ensures { λ r. ⌜ (r ≡ b - 48) × (r ≤ 207) ⌝ }
 {
-    let front = text::read_digits(octet::part(v, at, n), n);
-    front.value
+    if b < b'0' {
+        return 0;
+    }
+    (b - b'0') as u32
+}
+
+// The number of the two digits at a place. It is known where the digits of a time stand, so they are not looked for.
+fn pair_on(v: &[u8], at: usize) -> u32
+    requires { ⌜ at + 2 ≤ length (now v) ⌝ }
+    ensures { λ r. ⌜ (r ≡ numberOn at 2 (now (v .entry))) × (r ≤ 2277) ⌝ }
+{
+    digit_of(v[at]) * 10 + digit_of(v[at + 1])
 }
 
 // Whether the day and the clock of a well-formed time are in range.
 fn time_fits(v: &[u8]) -> bool
-    requires { ⌜ badTime (now v) ≡ none ⌝ }
+    requires { ⌜ 17 ≤ length (now v) ⌝ }
     ensures { λ r. ⌜ r ≡ timeFits (now (v .entry)) ⌝ }
 {
-    if !is_day(number_on(v, 0, 4), number_on(v, 4, 2), number_on(v, 6, 2)) {
+    let year = pair_on(v, 0) * 100 + pair_on(v, 2);
+    if !is_day(year, pair_on(v, 4), pair_on(v, 6)) {
         return false;
     }
-    is_clock(number_on(v, 9, 2), number_on(v, 12, 2), number_on(v, 15, 2))
+    is_clock(pair_on(v, 9), pair_on(v, 12), pair_on(v, 15))
 }
 
 // "Failing length, digits or marks is 6; a number out of range, 5".
 pub fn read_time(v: &[u8]) -> Check
     ensures { λ r. ⌜ r ≡ timeChecked (now (v .entry)) ⌝ }
 {
-    let good = like_time(v);
+    let good = like_run(&TIME, v);
     if good != v.len() {
         return Check::BadForm(good);
     }

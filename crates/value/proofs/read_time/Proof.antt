@@ -7,23 +7,23 @@ use mathlib.Core.Option.{none}
 use denote.Ref.{now}
 use Rattle.value.specs.Value.{badTime}
 use Rattle.value.specs.declared.Check.the-variants.{Good, OutOfRange}
-use Rattle.value.proofs.Times.{time-short, time-long, time-formed, time-ranged}
+use Rattle.value.proofs.Times.{time-short, time-long, time-formed, time-ranged, time-least}
 use Rattle.value.proofs.read_time.Statement.{statement}
 use Rattle.value.proofs.read_time.Tie as tie
 
 returns : tie.Need-returns
-returns c = time-short _ _ (c .before .like-time .ensures) (c .if1 .taken)
+returns c = time-short _ _ (c .before .like-run .ensures) (c .if1 .taken)
 
 returns-2 : tie.Need-returns-2
 returns-2 c =
-    time-long _ _ (c .before .before .before .like-time .ensures) (c .before .before .if1 .left) (sym (c .before .is-time-long .ensures) ∙ not-true _ (c .if2 .taken))
+    time-long _ _ (c .before .before .before .like-run .ensures) (c .before .before .if1 .left) (sym (c .before .is-time-long .ensures) ∙ not-true _ (c .if2 .taken))
 
-formed : (c : tie.Else2) → badTime (now (c .before .before .before .before .before .args .v)) ≡ none
+formed : (c : tie.Else2) → badTime (now (c .before .before .before .before .before .before .args .v)) ≡ none
 formed c =
-    time-formed _ _ (c .before .before .before .like-time .ensures) (c .before .before .if1 .left) (sym (c .before .is-time-long .ensures) ∙ not-false _ (c .if2 .left))
+    time-formed _ _ (c .before .before .before .like-run .ensures) (c .before .before .if1 .left) (sym (c .before .is-time-long .ensures) ∙ not-false _ (c .if2 .left))
 
 time-fits-requires : tie.Need-time-fits-requires
-time-fits-requires c κs = formed c
+time-fits-requires c κs = time-least _ (formed c)
 
 returns-3 : tie.Need-returns-3
 returns-3 c =
@@ -37,6 +37,7 @@ pub read-time-spec : {M : Type 1} → statement M
 read-time-spec =
     tie.close
     (tie.spec
+    (λ c. search needs)
     (λ c κs. search needs)
     returns
     (λ c κs. search needs)

@@ -11,8 +11,8 @@ use Rattle.field.specs.Index.{columns}
 use Rattle.field.specs.declared.Piece.{Piece}
 use Rattle.field.proofs.Cuts.{restAt, Stepped, stepped, rest-end, scanIn, scan-at, and-then-sound, and-then-assoc}
 use Rattle.field.proofs.IndexLaws.{columnsFrom, noColumns, pass-on, index-is}
-use Rattle.field.proofs.indexed.Statement.{statement}
-use Rattle.field.proofs.indexed.Tie as tie
+use Rattle.field.proofs.index_into.Statement.{statement}
+use Rattle.field.proofs.index_into.Tie as tie
 
 abbrev Inv-loop : tie.InvT-loop
 Inv-loop body start₀ len₀ count₀ scan₀ i₀ start len count scan i =
@@ -22,11 +22,11 @@ Inv-loop body start₀ len₀ count₀ scan₀ i₀ start len count scan i =
 abbrev μ-loop : tie.MeasureT-loop
 μ-loop body start₀ len₀ count₀ scan₀ i₀ start len count scan i = length body - i
 
-step : (c : tie.After-step-from Inv-loop μ-loop) → let p = c .before .before in Stepped (p .before .before .args .body .now) (p .loop .i) (c .step-from .result)
-step c = let p = c .before .before in stepped (p .before .before .args .body .now) (p .loop .i) _ (omega arith) (c .step-from .ensures)
+step : (c : tie.After-step-from Inv-loop μ-loop) → let p = c .before .before in Stepped (p .before .before .before .before .before .args .body .now) (p .loop .i) (c .step-from .result)
+step c = let p = c .before .before in stepped (p .before .before .before .before .before .args .body .now) (p .loop .i) _ (omega arith) (c .step-from .ensures)
 
 loop-holds : tie.Need-loop-holds Inv-loop μ-loop
-loop-holds c = (omega arith, refl, scan-at 0 (piecesOf (c .before .args .body .now)))
+loop-holds c = (omega arith, refl, scan-at 0 (piecesOf (c .before .before .before .before .args .body .now)))
 
 loop-less : tie.Need-loop-less Inv-loop μ-loop
 loop-less c = let t = step (c .before .before .before .before .before .before) in omega (arith, t .on, t .inside)
@@ -45,14 +45,14 @@ loop-again c =
 returns : tie.Need-returns Inv-loop μ-loop
 returns c =
     let p = c .before in
-    let l = p .before .before .args .body .now in
+    let l = p .before .before .before .before .before .args .body .now in
     let e = rest-end l (p .loop .i) (omega arith) in
     index-is l _ _ _ _
     (p .loop .inv .1 ∙ ap (columnsFrom (columns (p .loop .start) (p .loop .len) (p .loop .count))) e)
     (p .loop .inv .2 ∙ ap (λ (gs : List Piece). andThen (p .loop .scan) (scanIn gs)) e ∙ and-then-sound (p .loop .scan))
 
-pub indexed-spec : {M : Type 1} → statement M
-indexed-spec =
+pub index-into-spec : {M : Type 1} → statement M
+index-into-spec =
     tie.close
     (tie.spec
     Inv-loop
