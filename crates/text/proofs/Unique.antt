@@ -1,15 +1,16 @@
 -- No second answer satisfies a promise, and no second lent bytes: each promise is an equation with its definition.
---     read-digits-once, byte-sum-once, new-once, size-once, sum-once     what is read
---     puts-once     every method that puts more to a text (put, part, decimal, fixed, price, field, number, letter, field_if, number_if, letter_if, onto)
+--     read-digits-once, byte-sum-once, new-once     what is read, and the text with no bytes
+--     puts-once     every method that puts more to a text (put, part, decimal, price)
+--     put-at-once     every function that puts more to bytes that are lent (put_at, part_at, fixed_at, field_at, number_at, letter_at): the bytes and the length
 --     place-once     where a text is placed, the bytes and the place after it
-use mathlib.Core.Path.{_≡_, sym, _∙_}
+use mathlib.Core.Path.{_≡_, sym, ap, _∙_}
 use mathlib.Core.Bool.{cond}
 use mathlib.Core.List.{List}
 use Prim.Native.Nat.{ℕ, _+_}
 use lib.ListN.{length}
 use Rattle.octet.specs.Splice.{splice, fitsAt}
 use Rattle.text.specs.Decimal.{digitsAtFront, checkSum}
-use Rattle.text.specs.Writing.{empty, puts, held}
+use Rattle.text.specs.Writing.{textWith, empty, puts, held}
 use Rattle.text.specs.declared.Digits.{Digits}
 use Rattle.text.specs.declared.Text.{Text}
 
@@ -25,11 +26,8 @@ new-once p q h g = h ∙ sym g
 pub puts-once : (t : Text) (more : List ℕ) (p q : Text) → p ≡ puts t more → q ≡ puts t more → p ≡ q
 puts-once t more p q h g = h ∙ sym g
 
-pub size-once : (t : Text) (p q : ℕ) → p ≡ length (held t) → q ≡ length (held t) → p ≡ q
-size-once t p q h g = h ∙ sym g
-
-pub sum-once : (t : Text) (p q : ℕ) → p ≡ checkSum (held t) → q ≡ checkSum (held t) → p ≡ q
-sum-once t p q h g = h ∙ sym g
+pub put-at-once : (t : Text) (more left left′ : List ℕ) (r r′ : ℕ) → textWith left r ≡ puts t more → textWith left′ r′ ≡ puts t more → (left ≡ left′) × (r ≡ r′)
+put-at-once t more left left′ r r′ h g = (ap (λ (u : Text). u .bytes) (h ∙ sym g), ap (λ (u : Text). u .len) (h ∙ sym g))
 
 -- what `place` promises of the bytes that it leaves and of its answer
 abbrev Placed : Text → List ℕ → ℕ → List ℕ → ℕ → Type 0

@@ -6,7 +6,7 @@ ghost use Prim.Native.Nat.{_+_, _/_, _%_, _^_, _≤_, min};
 ghost use lib.ListN.{length, take};
 ghost use Rattle.octet.specs.Splice.{splice, fitsAt};
 ghost use Rattle.text.specs.Decimal.{digitsAtFront, Fits, decimal, fixed, priceText, checkSum};
-ghost use Rattle.text.specs.Fields.{_is_, fieldBytes, layout, said};
+ghost use Rattle.text.specs.Fields.{_is_, fieldBytes};
 ghost use Rattle.text.specs.Writing.{room, textWith, empty, puts, held};
 use octet::copy_into;
 
@@ -70,15 +70,6 @@ impl Text {
         Text { bytes: b, len }
     }
 
-    // The lowest `width` digits of a number more, leading zeros among them.
-    pub fn fixed(self, width: usize, n: u64) -> Text
-        ensures { λ r. ⌜ r ≡ puts self (fixed width n) ⌝ }
-    {
-        let mut b = self.bytes;
-        let len = fixed_at(&mut b, self.len, width, n);
-        Text { bytes: b, len }
-    }
-
     // A "price with four decimals" more, of ten-thousandths.
     pub fn price(self, p: u64) -> Text
         ensures { λ r. ⌜ r ≡ puts self (priceText p) ⌝ }
@@ -88,78 +79,12 @@ impl Text {
         Text { bytes: b, len }
     }
 
-    // tag=value|, where the value is the first n bytes of v.
-    pub fn field(self, tag: u32, v: &[u8], n: usize) -> Text
-        ensures { λ r. ⌜ r ≡ puts self (fieldBytes (tag is take n (now (v .entry)))) ⌝ }
-    {
-        let mut b = self.bytes;
-        let len = field_at(&mut b, self.len, tag, v, n);
-        Text { bytes: b, len }
-    }
-
-    // tag=n|
-    pub fn number(self, tag: u32, n: u32) -> Text
-        ensures { λ r. ⌜ r ≡ puts self (fieldBytes (tag is decimal n)) ⌝ }
-    {
-        let mut b = self.bytes;
-        let len = number_at(&mut b, self.len, tag, n);
-        Text { bytes: b, len }
-    }
-
-    // tag=x|
-    pub fn letter(self, tag: u32, x: u8) -> Text
-        ensures { λ r. ⌜ r ≡ puts self (fieldBytes (tag is x ∷ [])) ⌝ }
-    {
-        let mut b = self.bytes;
-        let len = letter_at(&mut b, self.len, tag, x);
-        Text { bytes: b, len }
-    }
-
-    // tag=value| where said
-    pub fn field_if(self, ask: bool, tag: u32, v: &[u8], n: usize) -> Text
-        ensures { λ r. ⌜ r ≡ puts self (layout (said ask ((tag is take n (now (v .entry))) ∷ []))) ⌝ }
-    {
-        if ask { self.field(tag, v, n) } else { self }
-    }
-
-    // tag=n| where said
-    pub fn number_if(self, ask: bool, tag: u32, n: u32) -> Text
-        ensures { λ r. ⌜ r ≡ puts self (layout (said ask ((tag is decimal n) ∷ []))) ⌝ }
-    {
-        if ask { self.number(tag, n) } else { self }
-    }
-
-    // tag=x| where said
-    pub fn letter_if(self, ask: bool, tag: u32, x: u8) -> Text
-        ensures { λ r. ⌜ r ≡ puts self (layout (said ask ((tag is x ∷ []) ∷ []))) ⌝ }
-    {
-        if ask { self.letter(tag, x) } else { self }
-    }
-
     // How many bytes it holds.
-    pub fn size(self) -> usize
+    fn size(self) -> usize
         ensures { λ r. ⌜ r ≡ length (held self) ⌝ }
         ensures { λ r. ⌜ r ≤ room ⌝ }
     {
         fewer(self.len, ROOM)
-    }
-
-    // All that it holds, put to another.
-    pub fn onto(self, t: Text) -> Text
-        ensures { λ r. ⌜ r ≡ puts t (held self) ⌝ }
-    {
-        let n = self.size();
-        let b = self.bytes;
-        t.part(&b, n)
-    }
-
-    // The sum of the bytes that it holds, modulo 256.
-    pub fn sum(self) -> u8
-        ensures { λ r. ⌜ r ≡ checkSum (held self) ⌝ }
-    {
-        let n = self.size();
-        let b = self.bytes;
-        byte_sum(&b[..n])
     }
 
     // Writes what it holds at a place of dst, and says where that ends; where it does not fit, nothing.
@@ -223,8 +148,11 @@ pub fn byte_sum(s: &[u8]) -> u8
     total
 }
 
-// One byte more, in bytes that are lent; the length with it.
-fn put_at(b: &mut [u8; ROOM], at: usize, x: u8) -> usize
+// The same in bytes that are lent: a text of b and of the length `at`, and the answer is its length with what is put to it.
+// A program that writes much lends one array to all of these, and nothing is copied in between.
+//
+// One byte more.
+pub fn put_at(b: &mut [u8; ROOM], at: usize, x: u8) -> usize
     ensures { λ r. ⌜ textWith (now (b .exit)) r ≡ puts (textWith (now (b .entry)) at) (x ∷ []) ⌝ }
 {
     if at < ROOM {
@@ -234,7 +162,8 @@ fn put_at(b: &mut [u8; ROOM], at: usize, x: u8) -> usize
     at
 }
 
-fn part_at(b: &mut [u8; ROOM], at: usize, s: &[u8], n: usize) -> usize
+// The bytes of a part one by one, as far as there is room.
+fn bytes_at(b: &mut [u8; ROOM], at: usize, s: &[u8], n: usize) -> usize
     ensures { λ r. ⌜ textWith (now (b .exit)) r ≡ puts (textWith (now (b .entry)) at) (take n (now (s .entry))) ⌝ }
 {
     let mut p = at;
@@ -247,6 +176,17 @@ fn part_at(b: &mut [u8; ROOM], at: usize, s: &[u8], n: usize) -> usize
         i += 1;
     }
     p
+}
+
+// The first n bytes of s more, or all of s where it has fewer: at once where there is room for them.
+pub fn part_at(b: &mut [u8; ROOM], at: usize, s: &[u8], n: usize) -> usize
+    ensures { λ r. ⌜ textWith (now (b .exit)) r ≡ puts (textWith (now (b .entry)) at) (take n (now (s .entry))) ⌝ }
+{
+    let m = fewer(n, s.len());
+    if copy_into(b, at, &s[..m]) {
+        return at + m;
+    }
+    bytes_at(b, at, s, n)
 }
 
 // The last digit is n's remainder by ten, those before it are n / 10's.
@@ -274,7 +214,8 @@ fn digit_of(n: u64, k: usize) -> u8
     b'0' + (rest % 10) as u8
 }
 
-fn fixed_at(b: &mut [u8; ROOM], at: usize, width: usize, n: u64) -> usize
+// The lowest `width` digits of a number more, leading zeros among them.
+pub fn fixed_at(b: &mut [u8; ROOM], at: usize, width: usize, n: u64) -> usize
     ensures { λ r. ⌜ textWith (now (b .exit)) r ≡ puts (textWith (now (b .entry)) at) (fixed width n) ⌝ }
 {
     let mut p = at;
@@ -294,7 +235,8 @@ fn price_at(b: &mut [u8; ROOM], at: usize, p: u64) -> usize
     fixed_at(b, after, DECIMALS, p)
 }
 
-fn field_at(b: &mut [u8; ROOM], at: usize, tag: u32, v: &[u8], n: usize) -> usize
+// tag=value|, where the value is the first n bytes of v.
+pub fn field_at(b: &mut [u8; ROOM], at: usize, tag: u32, v: &[u8], n: usize) -> usize
     ensures { λ r. ⌜ textWith (now (b .exit)) r ≡ puts (textWith (now (b .entry)) at) (fieldBytes (tag is take n (now (v .entry)))) ⌝ }
 {
     let equals = decimal_at(b, at, tag as u64);
@@ -303,7 +245,8 @@ fn field_at(b: &mut [u8; ROOM], at: usize, tag: u32, v: &[u8], n: usize) -> usiz
     put_at(b, mark, MARK)
 }
 
-fn number_at(b: &mut [u8; ROOM], at: usize, tag: u32, n: u32) -> usize
+// tag=n|
+pub fn number_at(b: &mut [u8; ROOM], at: usize, tag: u32, n: u32) -> usize
     ensures { λ r. ⌜ textWith (now (b .exit)) r ≡ puts (textWith (now (b .entry)) at) (fieldBytes (tag is decimal n)) ⌝ }
 {
     let equals = decimal_at(b, at, tag as u64);
@@ -312,7 +255,8 @@ fn number_at(b: &mut [u8; ROOM], at: usize, tag: u32, n: u32) -> usize
     put_at(b, mark, MARK)
 }
 
-fn letter_at(b: &mut [u8; ROOM], at: usize, tag: u32, x: u8) -> usize
+// tag=x|
+pub fn letter_at(b: &mut [u8; ROOM], at: usize, tag: u32, x: u8) -> usize
     ensures { λ r. ⌜ textWith (now (b .exit)) r ≡ puts (textWith (now (b .entry)) at) (fieldBytes (tag is x ∷ [])) ⌝ }
 {
     let equals = decimal_at(b, at, tag as u64);

@@ -1,5 +1,5 @@
 -- What writes come to, taken together.
---     sent-is, sent-fits     a message that was placed, and where it ends where there is room for it
+--     sent-fits     where a message ends, where there is room for it
 --     replied-no, replied-none, replied-one, replied-two     a reply, by its case
 --     replied-full, replied-inside     what a caller has: the reply where the buffer has 512 bytes, and an end inside the buffer
 use mathlib.Core.Path.{_≡_, refl, sym, ap, _∙_}
@@ -16,11 +16,6 @@ use Rattle.octet.specs.Splice.{splice, fitsAt}
 use Rattle.octet.proofs.Cases.{cond-true, le-or-lt}
 use Rattle.octet.proofs.Lists.{fits-true, splice-length, splice-then, splice-nil}
 use Rattle.wire.specs.Sending.{longest, replyRoom, Sent, Replied}
-
--- a message that was placed under another name
-pub sent-is : {old new h m : List ℕ} {at r : ℕ} → new ≡ splice old at h → r ≡ cond (fitsAt old at h) (at + length h) at → h ≡ m → length m ≤ longest → Sent old new at r m
-sent-is {old} {at = at} b e f s =
-    record { bytes = b ∙ ap (splice old at) f; end = e ∙ ap (λ (x : List ℕ). cond (fitsAt old at x) (at + length x) at) f; short = s }
 
 -- a message where there is room for it
 pub sent-fits : {old new m : List ℕ} {at r : ℕ} → Sent old new at r m → at + length m ≤ length old → r ≡ at + length m

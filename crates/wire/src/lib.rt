@@ -4,15 +4,23 @@ use answer::Id;
 use answer::LARGEST;
 use answer::Setup;
 use frame::OPENING;
-use text::Text;
+use octet::copy_into;
+use text::ROOM;
+use text::byte_sum;
+use text::field_at;
+use text::fixed_at;
+use text::letter_at;
+use text::number_at;
+use text::part_at;
+use text::put_at;
 ghost use mathlib.Core.Path.{_≡_};
 ghost use mathlib.Core.List.{[], _∷_};
 ghost use Prim.Native.Nat.{_+_, _≤_};
 ghost use lib.ListN.{length};
 ghost use Rattle.answer.specs.Setup.{idOf};
 ghost use Rattle.text.specs.Fields.{_is_, fieldBytes, layout};
-ghost use Rattle.text.specs.Writing.{empty, puts, held};
-ghost use Rattle.wire.specs.Messages.{framed, typeOf, isGapFill, numberOf, uses, rejectOf, leadOf, datedOf, othersOf, messageOf, numberAfter, replyOf, usedBy};
+ghost use Rattle.text.specs.Writing.{textWith, puts};
+ghost use Rattle.wire.specs.Messages.{framed, typeOf, isGapFill, numberOf, uses, named, rejectOf, leadOf, datedOf, othersOf, messageOf, numberAfter, replyOf, usedBy};
 ghost use Rattle.wire.specs.Sending.{SmallFault, Small, Sent, Replied};
 
 // What to write. Echo is the Heartbeat that answers a Test Request.
@@ -93,74 +101,102 @@ fn is_gap_fill(say: Say) -> bool
     }
 }
 
+// What follows writes into bytes that are lent, at a place, and answers the place after it (as text's functions do): one array serves a whole body.
+
 // tag=ID|
-fn with_id(t: Text, tag: u32, id: Id) -> Text
-    ensures { λ r. ⌜ r ≡ puts t (fieldBytes (tag is idOf id)) ⌝ }
+fn with_id(b: &mut [u8; ROOM], at: usize, tag: u32, id: Id) -> usize
+    ensures { λ r. ⌜ textWith (now (b .exit)) r ≡ puts (textWith (now (b .entry)) at) (fieldBytes (tag is idOf id)) ⌝ }
 {
-    let b = id.bytes;
+    let v = id.bytes;
     let n = id.len;
-    t.field(tag, &b, n)
+    field_at(b, at, tag, &v, n)
 }
 
 // "35, 34, 49 (ours), 56".
-fn lead(setup: Setup, o: u32, say: Say) -> Text
-    ensures { λ r. ⌜ r ≡ puts empty (layout (leadOf setup o say)) ⌝ }
+fn lead(b: &mut [u8; ROOM], at: usize, setup: Setup, o: u32, say: Say) -> usize
+    ensures { λ r. ⌜ textWith (now (b .exit)) r ≡ puts (textWith (now (b .entry)) at) (layout (leadOf setup o say)) ⌝ }
 {
     let ours = setup.ours;
     let theirs = setup.theirs;
-    let t = Text::new()
-        .letter(35, type_of(say))
-        .number(34, number_of(o, say));
-    with_id(with_id(t, 49, ours), 56, theirs)
+    let number = letter_at(b, at, 35, type_of(say));
+    let sender = number_at(b, number, 34, number_of(o, say));
+    let target = with_id(b, sender, 49, ours);
+    with_id(b, target, 56, theirs)
 }
 
 // "43 where said, 52 (the given time), 122 where said".
-fn with_date(t: Text, time: &[u8], say: Say) -> Text
-    ensures { λ r. ⌜ r ≡ puts t (layout (datedOf (now (time .entry)) say)) ⌝ }
+fn with_date(b: &mut [u8; ROOM], at: usize, time: &[u8], say: Say) -> usize
+    ensures { λ r. ⌜ textWith (now (b .exit)) r ≡ puts (textWith (now (b .entry)) at) (layout (datedOf (now (time .entry)) say)) ⌝ }
 {
-    let again = is_gap_fill(say);
-    t.letter_if(again, 43, b'Y')
-        .field(52, time, TIME_WIDTH)
-        .field_if(again, 122, time, TIME_WIDTH)
+    if is_gap_fill(say) {
+        let sent = letter_at(b, at, 43, b'Y');
+        let first = field_at(b, sent, 52, time, TIME_WIDTH);
+        return field_at(b, first, 122, time, TIME_WIDTH);
+    }
+    field_at(b, at, 52, time, TIME_WIDTH)
+}
+
+// "371 where a tag is named".
+fn with_named(b: &mut [u8; ROOM], at: usize, tag: u32) -> usize
+    ensures { λ r. ⌜ textWith (now (b .exit)) r ≡ puts (textWith (now (b .entry)) at) (layout (named tag)) ⌝ }
+{
+    if tag != 0 {
+        return number_at(b, at, 371, tag);
+    }
+    at
 }
 
 // "Reject carries 45, 371 where a tag is named, 372, 373".
-fn with_fault(t: Text, n: u32, fault: Fault, word: &[u8]) -> Text
-    ensures { λ r. ⌜ (r ≡ puts t (layout (rejectOf n fault (now (word .entry))))) × SmallFault fault ⌝ }
+fn with_fault(b: &mut [u8; ROOM], at: usize, n: u32, fault: Fault, word: &[u8]) -> usize
+    ensures { λ r. ⌜ (textWith (now (b .exit)) r ≡ puts (textWith (now (b .entry)) at) (layout (rejectOf n fault (now (word .entry))))) × SmallFault fault ⌝ }
 {
     let tag = fault.tag;
     let reason = fault.reason;
-    t.number(45, n)
-        .number_if(tag != 0, 371, tag)
-        .field(372, word, MOST_TYPE)
-        .number(373, reason)
+    let named = number_at(b, at, 45, n);
+    let typed = with_named(b, named, tag);
+    let last = field_at(b, typed, 372, word, MOST_TYPE);
+    number_at(b, last, 373, reason)
 }
 
 // The tags after the header, "in the order this paper names them".
-fn with_others(t: Text, o: u32, word: &[u8], say: Say) -> Text
-    ensures { λ r. ⌜ (r ≡ puts t (layout (othersOf o (now (word .entry)) say))) × Small say ⌝ }
+fn with_others(b: &mut [u8; ROOM], at: usize, o: u32, word: &[u8], say: Say) -> usize
+    ensures { λ r. ⌜ (textWith (now (b .exit)) r ≡ puts (textWith (now (b .entry)) at) (layout (othersOf o (now (word .entry)) say))) × Small say ⌝ }
 {
     match say {
-        Say::Logon => t.number(98, 0).number(108, 30),
-        Say::Heartbeat => t,
-        Say::Echo => t.field(112, word, MOST_WORD),
-        Say::Test => t.number(112, o),
-        Say::Logout => t,
-        Say::Resend(from) => t.number(7, from).number(16, 0),
-        Say::Reject(n, fault) => with_fault(t, n, fault, word),
-        Say::GapFill(_, to) => t.letter(123, b'Y').number(36, to),
+        Say::Logon => {
+            let seconds = number_at(b, at, 98, 0);
+            number_at(b, seconds, 108, 30)
+        }
+        Say::Heartbeat => at,
+        Say::Echo => field_at(b, at, 112, word, MOST_WORD),
+        Say::Test => number_at(b, at, 112, o),
+        Say::Logout => at,
+        Say::Resend(from) => {
+            let end = number_at(b, at, 7, from);
+            number_at(b, end, 16, 0)
+        }
+        Say::Reject(n, fault) => with_fault(b, at, n, fault, word),
+        Say::GapFill(_, to) => {
+            let next = letter_at(b, at, 123, b'Y');
+            number_at(b, next, 36, to)
+        }
     }
 }
 
-// The message with this opening and this body.
-fn frame(opening: &[u8], body: Text) -> Text
-    requires { ⌜ length (now opening) + length (held body) ≤ 400 ⌝ }
-    ensures { λ r. ⌜ r ≡ puts empty (framed (now (opening .entry)) (held body)) ⌝ }
+// The message with this opening and this body, from the bytes' start.
+fn frame(b: &mut [u8; ROOM], opening: &[u8], body: &[u8]) -> usize
+    requires { ⌜ length (now opening) + length (now body) ≤ 400 ⌝ }
+    ensures { λ r. ⌜ textWith (now (b .exit)) r ≡ puts (textWith (now (b .entry)) 0) (framed (now (opening .entry)) (now (body .entry))) ⌝ }
 {
-    let n = body.size();
-    let head = body.onto(Text::new().part(opening, opening.len()).number(9, n as u32));
-    let total = head.sum();
-    head.part(b"10=", 3).fixed(3, total as u64).put(MARK)
+    let n = body.len();
+    let length = part_at(b, 0, opening, opening.len());
+    let first = number_at(b, length, 9, n as u32);
+    let end = part_at(b, first, body, n);
+    let head = &b[..];
+    let total = byte_sum(&head[..end]);
+    let digits = part_at(b, end, b"10=", 3);
+    let mark = fixed_at(b, digits, 3, total as u64);
+    put_at(b, mark, MARK)
 }
 
 // Writes a message into reply at a place, and says where it ends; where it does not fit, nothing.
@@ -175,8 +211,16 @@ pub fn write(
 ) -> usize
     ensures { λ r. ⌜ Sent (now (reply .entry)) (now (reply .exit)) at r (messageOf setup o (now (time .entry)) (now (word .entry)) say) ⌝ }
 {
-    let header = with_date(lead(setup, o, say), time, say);
-    frame(&OPENING, with_others(header, o, word, say)).place(reply, at)
+    let mut body = [0u8; ROOM];
+    let date = lead(&mut body, 0, setup, o, say);
+    let others = with_date(&mut body, date, time, say);
+    let n = with_others(&mut body, others, o, word, say);
+    let mut message = [0u8; ROOM];
+    let end = frame(&mut message, &OPENING, &body[..n]);
+    if copy_into(reply, at, &message[..end]) {
+        return at + end;
+    }
+    at
 }
 
 // "It uses no O; every other message we write uses one".

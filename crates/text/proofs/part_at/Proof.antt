@@ -1,58 +1,74 @@
--- `text::part_at` meets its contract. The invariant: the text is the first one with the first i bytes of s.
+-- `text::part_at` meets its contract: what is copied at once is what would be put byte by byte, and where it does not fit nothing is copied.
 -- Assumes nothing.
-use mathlib.Core.Path.{_≡_, refl, sym, _∙_}
-use Prim.Native.Nat.{_≤_, _<_, _-_}
-use native.Mathlib.Numerals.{add-one}
-use lib.ListN.{length, take}
-use lib.Seq.{take-suc, take-all}
-use borrow.Author.Needs.{needs}
+use mathlib.Core.Path.{_≡_, sym, ap, _∙_}
+use mathlib.Core.List.{List}
+use mathlib.Core.Bool.{true}
+use Prim.Native.Nat.{ℕ, _+_, _≤_, _<_}
 use native.Mathlib.Omega.{arith}
-use Rattle.text.specs.Writing.{puts, textWith}
-use Rattle.text.proofs.Puts.{puts-puts}
+use borrow.Author.Tests.{leb-true, leb-false}
+use lib.ListN.{length, take, length-take}
+use Rattle.octet.specs.Splice.{splice, fitsAt}
+use Rattle.octet.proofs.Lists.{splice-out}
+use Rattle.text.specs.Writing.{room, textWith, puts}
+use Rattle.text.proofs.Puts.{puts-fits, take-most}
+use borrow.Author.Needs.{needs}
 use Rattle.text.proofs.part_at.Statement.{statement}
 use Rattle.text.proofs.part_at.Tie as tie
 
-abbrev Inv-loop : tie.InvT-loop
-Inv-loop b₀ at s n p₀ i₀ b p i = (i ≤ length s) × (i ≤ n) × (textWith b p ≡ puts (textWith b₀ at) (take i s))
+abbrev start : tie.After-copy-into → tie.Start
+start c = c .before .before .before .before .before
 
-abbrev μ-loop : tie.MeasureT-loop
-μ-loop b₀ at s n p₀ i₀ b p i = length s - i
+full : (c : tie.After-copy-into) → length (start c .args .b .now) ≡ room
+full c = search needs
 
-loop-holds : tie.Need-loop-holds Inv-loop μ-loop
-unfolding puts
-loop-holds c = (omega arith, omega arith, refl)
+abbrev asked : tie.After-copy-into → List ℕ
+asked c = take (start c .args .n) (start c .args .s .now)
 
-returns : tie.Need-returns Inv-loop μ-loop
+-- what is copied is what is asked for
+copied : (c : tie.After-copy-into) → take (c .before .before .before .fewer .result) (start c .args .s .now) ≡ asked c
+copied c = ap (λ (k : ℕ). take k (start c .args .s .now)) (c .before .before .before .fewer .ensures) ∙ take-most (start c .args .n) (start c .args .s .now)
+
+long : (c : tie.After-copy-into) → length (asked c) ≡ c .before .before .before .fewer .result
+long c = length-take (start c .args .n) (start c .args .s .now) ∙ sym (c .before .before .before .fewer .ensures)
+
+fits : (c : tie.After-copy-into) → fitsAt (start c .args .b .now) (start c .args .at) (asked c) ≡ c .copy-into .result
+fits c = sym (c .copy-into .ensures .0 ∙ ap (fitsAt (start c .args .b .now) (start c .args .at)) (copied c))
+
+written : (c : tie.After-copy-into) → c .copy-into .last .0 ≡ splice (start c .args .b .now) (start c .args .at) (asked c)
+written c = c .copy-into .ensures .1 ∙ ap (splice (start c .args .b .now) (start c .args .at)) (copied c)
+
+inside : (c : tie.After-copy-into) → c .copy-into .result ≡ true → start c .args .at + length (asked c) ≤ room
+inside c h = omega (arith, leb-true (start c .args .at + length (asked c)) (length (start c .args .b .now)) (fits c ∙ h), full c)
+
+slice-aggregate-copy-into : tie.Need-slice-aggregate-copy-into
+slice-aggregate-copy-into c = simp length-take (omega arith)
+
+add-result : tie.Need-add-result
+add-result c = let k = c .before in omega (arith, inside k (c .if1 .taken), long k)
+
+returns : tie.Need-returns
 returns c =
-    let l = c .before .before .loop in
-    let e : l .i ≡ c .before .before .before .before .args .n = omega arith in
-    rw (← e) (l .inv .2)
+    let k = c .before in
+    let a = start k .args in
+    ap (λ (d : List ℕ). textWith d (a .at + k .before .before .before .fewer .result)) (written k)
+    ∙ ap (λ (n : ℕ). textWith (splice (a .b .now) (a .at) (asked k)) (a .at + n)) (sym (long k))
+    ∙ sym (puts-fits (a .b .now) (a .at) (asked k) (full k) (inside k (c .if1 .taken)))
 
-loop-again : tie.Need-loop-again Inv-loop μ-loop
-loop-again c =
-    let b = c .before .before .before .before .before in
-    let s = b .before .before .args .s .now in
-    let h : b .loop .i < length s = omega arith in
-    (omega arith, omega arith, rw (add-one, take-suc s (b .loop .i) 0 h) (c .put-at .ensures ∙ rw (b .loop .inv .2, puts-puts)))
-
-returns-2 : tie.Need-returns-2 Inv-loop μ-loop
+returns-2 : tie.Need-returns-2
 returns-2 c =
-    let a = c .before .before .before .args in
-    let l = c .before .loop in
-    let e : take (l .i) (a .s .now) ≡ take (a .n) (a .s .now) = take-all _ _ (c .loop-test .left) ∙ sym (take-all (a .n) (a .s .now) (omega arith)) in
-    rw (← e) (l .inv .2)
+    let k = c .before .before .before in
+    let a = start k .args in
+    let h : length (a .b .now) < a .at + length (asked k) = leb-false _ _ (fits k ∙ c .before .before .if1 .left) in
+    c .bytes-at .ensures ∙ ap (λ (d : List ℕ). puts (textWith d (a .at)) (asked k)) (written k ∙ splice-out (a .b .now) (a .at) (asked k) h)
 
 pub part-at-spec : {M : Type 1} → statement M
 part-at-spec =
     tie.close
     (tie.spec
-    Inv-loop
-    μ-loop
-    loop-holds
-    returns
-    (λ c. search needs)
     (λ c κs. search needs)
-    (λ c. omega arith)
-    (λ c. omega arith)
-    loop-again
+    slice-aggregate-copy-into
+    (λ c κs. search needs)
+    add-result
+    returns
+    (λ c κs. search needs)
     returns-2)

@@ -11,9 +11,16 @@ sized : (c : tie.Start) → SmallFault (c .args .fault)
 sized c = search needs
 
 returns : tie.Need-returns
-returns c = (simp (c .number2 .ensures, c .before .field .ensures, c .before .before .number-if .ensures, c .before .before .before .number .ensures, layout-append, puts-puts, append-assoc, append-nil), sized (c .before .before .before .before .before))
+returns c =
+    let n = c .before .before .before .before .before .before in
+    (simp (c .number-at2 .ensures, c .before .before .field-at .ensures, c .before .before .before .before .with-named .ensures, n .number-at .ensures, layout-append, puts-puts, append-assoc, append-nil), sized (n .before .before .before))
 
 pub with-fault-spec : {M : Type 1} → statement M
 with-fault-spec =
     tie.close
-    (tie.spec (λ c κs. search needs) (λ c κs. search needs) (λ c κs. search needs) (λ c κs. search needs) returns)
+    (tie.spec
+    (λ c κs. search needs)
+    (λ c κs. search needs)
+    (λ c κs. search needs)
+    (λ c κs. search needs)
+    returns)
