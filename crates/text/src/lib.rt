@@ -148,9 +148,9 @@ pub fn byte_sum(s: &[u8]) -> u8
     total
 }
 
-// The same in bytes that are lent: a text of b and of the length `at`, and the answer is its length with what is put to it.
-// A program that writes much lends one array to all of these, and nothing is copied in between.
-//
+// What follows puts more to a text whose bytes are lent: b and the length `at` are the text, and the answer is its length
+// after that. One array serves many calls, where each method above copies the whole.
+
 // One byte more.
 pub fn put_at(b: &mut [u8; ROOM], at: usize, x: u8) -> usize
     ensures { λ r. ⌜ textWith (now (b .exit)) r ≡ puts (textWith (now (b .entry)) at) (x ∷ []) ⌝ }
@@ -189,16 +189,45 @@ pub fn part_at(b: &mut [u8; ROOM], at: usize, s: &[u8], n: usize) -> usize
     bytes_at(b, at, s, n)
 }
 
-// The last digit is n's remainder by ten, those before it are n / 10's.
-fn decimal_at(b: &mut [u8; ROOM], at: usize, n: u64) -> usize
+// The digit that a number ends with.
+fn last_digit(n: u64) -> u8
+    ensures { λ r. ⌜ r ≡ 48 + n % 10 ⌝ }
+{
+    b'0' + (n % 10) as u8
+}
+
+// A number of any length: those before its last digit are the digits of n / 10.
+fn digits_at(b: &mut [u8; ROOM], at: usize, n: u64) -> usize
     ensures { λ r. ⌜ textWith (now (b .exit)) r ≡ puts (textWith (now (b .entry)) at) (decimal n) ⌝ }
 {
-    let digit = b'0' + (n % 10) as u8;
+    let digit = last_digit(n);
     if n < 10 {
         return put_at(b, at, digit);
     }
-    let p = decimal_at(b, at, n / 10);
+    let p = digits_at(b, at, n / 10);
     put_at(b, p, digit)
+}
+
+// A number more, "no leading zeros". A tag, like most numbers, has one to three digits: these are put one by one, so that
+// the compiler knows the digits of each tag that stands in the code.
+fn decimal_at(b: &mut [u8; ROOM], at: usize, n: u64) -> usize
+    ensures { λ r. ⌜ textWith (now (b .exit)) r ≡ puts (textWith (now (b .entry)) at) (decimal n) ⌝ }
+{
+    if n < 10 {
+        return put_at(b, at, last_digit(n));
+    }
+    let tens = n / 10;
+    if tens < 10 {
+        let p = put_at(b, at, last_digit(tens));
+        return put_at(b, p, last_digit(n));
+    }
+    let hundreds = tens / 10;
+    if hundreds < 10 {
+        let p = put_at(b, at, last_digit(hundreds));
+        let q = put_at(b, p, last_digit(tens));
+        return put_at(b, q, last_digit(n));
+    }
+    digits_at(b, at, n)
 }
 
 // The digit of n that has k digits after it.

@@ -101,7 +101,8 @@ fn is_gap_fill(say: Say) -> bool
     }
 }
 
-// What follows writes into bytes that are lent, at a place, and answers the place after it (as text's functions do): one array serves a whole body.
+// What follows puts more to a text whose bytes are lent, as text's functions do: b and the length `at` are the text, and
+// the answer is its length after that.
 
 // tag=ID|
 fn with_id(b: &mut [u8; ROOM], at: usize, tag: u32, id: Id) -> usize
@@ -130,8 +131,8 @@ fn with_date(b: &mut [u8; ROOM], at: usize, time: &[u8], say: Say) -> usize
 {
     if is_gap_fill(say) {
         let sent = letter_at(b, at, 43, b'Y');
-        let first = field_at(b, sent, 52, time, TIME_WIDTH);
-        return field_at(b, first, 122, time, TIME_WIDTH);
+        let original = field_at(b, sent, 52, time, TIME_WIDTH);
+        return field_at(b, original, 122, time, TIME_WIDTH);
     }
     field_at(b, at, 52, time, TIME_WIDTH)
 }
@@ -154,8 +155,8 @@ fn with_fault(b: &mut [u8; ROOM], at: usize, n: u32, fault: Fault, word: &[u8]) 
     let reason = fault.reason;
     let named = number_at(b, at, 45, n);
     let typed = with_named(b, named, tag);
-    let last = field_at(b, typed, 372, word, MOST_TYPE);
-    number_at(b, last, 373, reason)
+    let end = field_at(b, typed, 372, word, MOST_TYPE);
+    number_at(b, end, 373, reason)
 }
 
 // The tags after the header, "in the order this paper names them".
@@ -190,8 +191,8 @@ fn frame(b: &mut [u8; ROOM], opening: &[u8], body: &[u8]) -> usize
 {
     let n = body.len();
     let length = part_at(b, 0, opening, opening.len());
-    let first = number_at(b, length, 9, n as u32);
-    let end = part_at(b, first, body, n);
+    let start = number_at(b, length, 9, n as u32);
+    let end = part_at(b, start, body, n);
     let head = &b[..];
     let total = byte_sum(&head[..end]);
     let digits = part_at(b, end, b"10=", 3);
