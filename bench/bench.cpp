@@ -288,7 +288,8 @@ struct Bench {
             {"(c) Heartbeat", call("c", full, beat, FILLS + 1, HEARD, 0, 9), parse(beat, 35), 0.5},
             {"(d) Test Request, answered", call("d", full, test, FILLS + 1, ECHOED, 60, 9), parse(test, 112), 0},
             {"(e) report rejected by its last rule", call("e", day_of(511), wrong, FILLS, REJECTED, 60, 9), parse(wrong, 17), 0},
-            {"(f) report of 4,096 bytes, 460 fields", booking("f", 0, fields), parse(fields, 17), 0.15},
+            {"(f) report of 4,096 bytes, " + std::to_string(std::count(fields.begin(), fields.end(), '\001')) + " fields", booking("f", 0, fields),
+             parse(fields, 17), 0.15},
             {"    report of 4,096 bytes, one long text", booking("f", 0, text), parse(text, 17), 0},
         };
         printf("a report has %zu bytes, a Heartbeat %zu, a Test Request %zu; medians of %d rounds, in brackets where nine of ten lie\n\n", fresh.size(),
