@@ -38,6 +38,24 @@ refusalNumber refusal.BadId = 9
 abbrev pub fault : ℕ → ℕ → Fault
 fault reason tag = record { reason = reason; tag = tag; at = 0 }
 
+-- ---- numbers that the paper says more than once
+
+-- "Numbers have digits only, 1 to 9": the largest of them. "both at most 999,999,999", of E and O
+abbrev pub nineDigits : ℕ
+nineDigits = 999999999
+
+-- "The first `34=` field is 1 to 999,999,998"
+abbrev pub lastSequence : ℕ
+lastSequence = 999999998
+
+-- "O above 999,999,997"
+abbrev pub lastToSend : ℕ
+lastToSend = 999999997
+
+-- "38 and 32 are 1 to 999,999"
+abbrev pub mostContracts : ℕ
+mostContracts = 999999
+
 -- the largest number of four bytes
 abbrev pub largest : ℕ
 largest = 4294967295

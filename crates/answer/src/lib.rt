@@ -1,7 +1,27 @@
-// What several crates are told or answer with: set-up, phase, type of message, fault, outcome, refusal. The paper's numbers for them are in specs/.
+// What several crates are told or answer with: set-up, phase, type of message, fault, outcome, refusal; and the numbers that the paper says more
+// than once. The paper's numbers for the cases are in specs/.
+pub mod tags;
+
+ghost use mathlib.Core.Path.{_≡_};
+ghost use Rattle.answer.specs.Numbers.{fault, counted};
+
+// "`|` below is byte 1".
+pub const BAR: u8 = 1;
 
 // E, O and the counts are kept in four bytes, and what is counted stops at the largest number of these.
-pub const LARGEST: u32 = 4294967295;
+pub const LARGEST: u32 = 4_294_967_295;
+
+// "Numbers have digits only, 1 to 9": the largest of them. E, O and tag 36 stop there.
+pub const NINE_DIGITS: u32 = 999_999_999;
+
+// "The first `34=` field is 1 to 999,999,998".
+pub const LAST_SEQUENCE: u32 = NINE_DIGITS - 1;
+
+// "O above 999,999,997": what is left are the numbers of two messages.
+pub const LAST_TO_SEND: u32 = NINE_DIGITS - 2;
+
+// "38 and 32 are 1 to 999,999".
+pub const MOST_CONTRACTS: u32 = 999_999;
 
 // An agreed ID: the first len of bytes.
 pub struct Id {
@@ -9,10 +29,24 @@ pub struct Id {
     pub len: usize,
 }
 
-// What a receiver is set up with.
+// What a receiver is set up with. It is asked by its methods: where an answer comes from is nothing to those who ask.
 pub struct Setup {
     pub ours: Id,
     pub theirs: Id,
+}
+
+impl Setup {
+    pub fn ours(self) -> Id
+        ensures { λ r. ⌜ r ≡ self .ours ⌝ }
+    {
+        self.ours
+    }
+
+    pub fn theirs(self) -> Id
+        ensures { λ r. ⌜ r ≡ self .theirs ⌝ }
+    {
+        self.theirs
+    }
 }
 
 pub enum Phase {
@@ -41,6 +75,22 @@ pub struct Fault {
     pub reason: u32,
     pub tag: u32,
     pub at: usize,
+}
+
+impl Fault {
+    // A fault that is none of form.
+    pub fn of(reason: u32, tag: u32) -> Fault
+        ensures { λ r. ⌜ r ≡ fault reason tag ⌝ }
+    {
+        Fault { reason, tag, at: 0 }
+    }
+}
+
+// A number counted on, no further than four bytes go.
+pub fn count_on(n: u32, k: u32) -> u32
+    ensures { λ r. ⌜ r ≡ counted n k ⌝ }
+{
+    if LARGEST - n < k { LARGEST } else { n + k }
 }
 
 // What became of a framed message.

@@ -11,8 +11,8 @@ use lib.ListN.{length, take, drop, getD, length-append, length-drop, length-take
 use lib.Seq.{take-append-le, drop-append-le, take-suc, getD-drop}
 use lib.Dec.{leb, ltb, eqb}
 use borrow.Author.Tests.{ltb-false, leb-false, eqb-true, eqb-false, eq-eqb, lt-ltb, le-leb}
-use Rattle.octet.specs.Maybe.{orElse, first}
-use Rattle.octet.proofs.Cases.{of-cond, contrary, and-both, and-fails, or-left, or-right}
+use Rattle.octet.specs.Maybe.{orElse, first, isNone}
+use Rattle.octet.proofs.Cases.{of-cond, contrary, and-both, and-fails, or-left, or-right, bool-case}
 use Rattle.answer.specs.declared.Setup.{Setup}
 use Rattle.answer.specs.declared.Fault.{Fault}
 use Rattle.answer.specs.declared.Outcome.{Outcome}
@@ -43,12 +43,13 @@ use Rattle.session.specs.declared.Session.{Session}
 use Rattle.session.specs.declared.Judged.{Judged}
 use Rattle.session.specs.declared.Verdict.{Verdict}
 use Rattle.session.specs.declared.Verdict.the-variants.{Settled, Report}
+use Rattle.restart.specs.Restart.{Outcome as Restarting, Again, Unlawful, restart}
 use Rattle.receiver.specs.State.{State, woken, Did, quiet, noting, sessionOf, withSession, keeping, offering, noteOfChange}
-use Rattle.receiver.specs.Calls.{owned, lost, settled, bookingNote, booked, bookedOr, placedFill, ruled, judgedBy, framed, foundTo, message, offerOf, offer, beginAgain, acknowledge, isEmpty, newDay}
+use Rattle.receiver.specs.Calls.{owned, lost, settled, bookingNote, booked, Deed, withRoom, placedFill, ruled, judgedBy, deedOf, carriedOut, framed, foundTo, message, offerOf, offer, beginAgain, acknowledge, isEmpty, newDay, restarted}
 use Rattle.receiver.specs.Receiver.{What, Own-call, Line-lost, Message, Offer, Begin-again, Acknowledge, New-day, Restart, Lent, refuse, shortReply, badGiven, lastNumber, writing, refusalOf, unrefused, unless-refused, does}
 use Rattle.receiver.specs.declared.Answer.{Answer}
-use Rattle.receiver.specs.declared.Answer.the-variants.{Done, Refused, More, Garbled, Framed, None, Acked, Already}
-use Rattle.promise.specs.World.{isRestart, gave, Shown, showing, anew, linesOf}
+use Rattle.receiver.specs.declared.Answer.the-variants.{Done, Refused, More, Garbled, Framed, Offered, None, Acked, Already, Restarted}
+use Rattle.promise.specs.World.{isAgain, startsAgain, gave, Shown, showing, anew, linesOf}
 use Rattle.promise.specs.Demand3.{numberBooked, numberTold}
 use Rattle.promise.proofs.Executions.{none-some, no-snoc, no-empty, lines-append}
 use Rattle.promise.proofs.Chain.{sessional, Says, NoteSays, Tells, Safe}
@@ -61,9 +62,23 @@ pub record Stands (st : State) (h : Shown) : Type 0 where
   pub base : h .base ≤ st .kept .acked
   pub given : h .given ≡ linesOf (h .base + 1) (take (st .offered - h .base) (drop (h .base) (st .kept .slots)))
 
+-- whether a call answers that it acknowledged
+abbrev pub isAcked : Answer → Bool
+isAcked Done = false
+isAcked (Refused why) = false
+isAcked More = false
+isAcked (Garbled skip) = false
+isAcked (Framed len outcome) = false
+isAcked Offered = false
+isAcked None = false
+isAcked Acked = true
+isAcked Already = false
+isAcked (Restarted whole) = false
+
 pub record Acts (st : State) (w : What) (d : Did) : Type 0 where
   pub notes : NoteSays (st .kept) w (d .next .kept) (d .note)
   pub tells : Tells st d
+  pub acks : isAcked (d .answer) ≡ true → isNone (d .note) ≡ false
   pub marks : (h : Shown) → Stands st h → Stands (d .next) (showing h w d (anew w (d .answer)))
 
 -- ---- no fill is booked
@@ -97,10 +112,11 @@ stands-same : (st : State) (w : What) (d : Did) (h : Shown) → d .next .offered
 stands-same st w d h o a f = stands-more st w d h [] o a (f ∙ sym (append-nil (st .kept .slots)))
 
 -- a call that changes nothing
-acts-quiet : (st : State) (w : What) (a : Answer) → anew w a ≡ false → gave a [] ≡ [] → numberTold a ≡ none → Acts st w (quiet a st)
-acts-quiet st w a e g u = record {
+acts-quiet : (st : State) (w : What) (a : Answer) → anew w a ≡ false → gave a [] ≡ [] → numberTold a ≡ none → isAcked a ≡ false → Acts st w (quiet a st)
+acts-quiet st w a e g u k = record {
   notes = refl;
   tells = tells-none st (quiet a st) u refl;
+  acks = λ h. contrary h k;
   marks = λ h m. stands-same st w (quiet a st) h refl refl refl e g m;
 }
 
@@ -134,13 +150,14 @@ change-says st w t says f =
     })
 
 acts-session : (st : State) (w : What) (a : Answer) (t : Session) (reply : List ℕ) → ((n : Note) → sessional n ≡ true → Says w n) → Onward (sessionOf st) t
-    → anew w a ≡ false → gave a [] ≡ [] → numberTold a ≡ none
+    → anew w a ≡ false → gave a [] ≡ [] → numberTold a ≡ none → isAcked a ≡ false
     → Acts st w (record { answer = a; next = withSession st t; reply = reply; note = noteOfChange (sessionOf st) t; line = [] })
-acts-session st w a t reply says f e g u =
+acts-session st w a t reply says f e g u k =
     let d : Did = record { answer = a; next = withSession st t; reply = reply; note = noteOfChange (sessionOf st) t; line = [] } in
     record {
       notes = change-says st w t says f;
       tells = tells-none st d u refl;
+      acks = λ h. contrary h k;
       marks = λ h m. stands-same st w d h refl refl refl e g m;
     }
 
@@ -149,13 +166,14 @@ unfolding owned
 acts-owned setup st time own a b =
     acts-session st (Own-call own time) Done (ownCall own (sessionOf st)) _ (λ n h. h)
     (own-numbers (sessionOf st) b own a)
-    refl refl refl
+    refl refl refl refl
 
 acts-lost : (st : State) → Acts st Line-lost (lost st)
 unfolding lost
 acts-lost st = record {
   notes = refl;
   tells = tells-none st (quiet Done (withSession st (lineLost (sessionOf st)))) refl refl;
+  acks = λ h. contrary h refl;
   marks = λ h m. stands-same st Line-lost (quiet Done (withSession st (lineLost (sessionOf st)))) h refl refl refl refl refl m;
 }
 
@@ -168,7 +186,7 @@ module _ (setup : Setup) (st : State) (time s : List ℕ) (safe : Safe (st .kept
   acts-settled : (len : ℕ) (ps : Pieces) (j : Judged) → Onward (sessionOf st) (j .next) → numberBooked (j .outcome) ≡ none
       → Acts st (Message time s) (settled setup st time len ps j)
   unfolding settled
-  acts-settled len ps j f u = acts-session st (Message time s) (Framed len (j .outcome)) (j .next) _ (λ n h. h) f refl refl u
+  acts-settled len ps j f u = acts-session st (Message time s) (Framed len (j .outcome)) (j .next) _ (λ n h. h) f refl refl u refl
 
   acts-passed : (len : ℕ) (ps : Pieces) (o : Outcome) → st .kept .e < top → numberBooked o ≡ none → Acts st (Message time s) (settled setup st time len ps (passed o (sessionOf st)))
   acts-passed len ps o l u = acts-settled len ps (passed o (sessionOf st)) (passed-numbers (sessionOf st) o-most (omega arith) o .onward) u
@@ -200,24 +218,25 @@ module _ (setup : Setup) (st : State) (time s : List ℕ) (safe : Safe (st .kept
           (λ h. (f, record { slots = refl; number = sym (some-same (length (q .slots) + 1) n h) ∙ sym more })),
           (λ x. ap some (sym more ∙ sym (x .1 .number))),
         );
+        acks = λ h. contrary h refl;
         marks = λ h m. stands-more st (Message time s) (booked st len f) h (f ∷ []) refl refl refl refl refl m;
       }
 
   acts-placed : (len : ℕ) (ps : Pieces) (n : ℕ) (p : Placed) → st .kept .e < top → Lawful (slotIn ps) → place (st .kept .slots) (slotIn ps) ≡ p
-      → Acts st (Message time s) (placedFill setup st time len ps n p)
-  unfolding placedFill bookedOr
+      → Acts st (Message time s) (carriedOut setup st time len ps (placedFill st n (slotIn ps) p))
+  unfolding carriedOut placedFill withRoom
   acts-placed len ps n placed.New l law e =
-      of-cond (Acts st (Message time s)) (hasRoom (st .kept .slots) (st .kept .orders) (slotIn ps))
+      of-cond (λ (d : Deed). Acts st (Message time s) (carriedOut setup st time len ps d)) (hasRoom (st .kept .slots) (st .kept .orders) (slotIn ps))
       (λ room. acts-booked len (slotIn ps) l law e room)
-      (λ _. acts-quiet st (Message time s) (Refused refusal.NoRoom) refl refl refl)
+      (λ _. acts-quiet st (Message time s) (Refused refusal.NoRoom) refl refl refl refl)
   acts-placed len ps n placed.Already l law e =
       acts-passed len ps outcome.Already l refl
   acts-placed len ps n (placed.Clash f) l law e =
       acts-rejected len ps n f l
 
   acts-ruled : (len : ℕ) (ps : Pieces) (n : ℕ) (r : Reported) → reportedIn ps ≡ r → st .kept .e < top
-      → (ruleFault (reportIn ps) ≡ none → Lawful (slotIn ps)) → Acts st (Message time s) (ruled setup st time len ps n r)
-  unfolding ruled
+      → (ruleFault (reportIn ps) ≡ none → Lawful (slotIn ps)) → Acts st (Message time s) (carriedOut setup st time len ps (ruled st ps n r))
+  unfolding carriedOut ruled
   acts-ruled len ps n (reported.Faulty f) e l law =
       acts-rejected len ps n f l
   acts-ruled len ps n reported.Aside e l law =
@@ -225,8 +244,8 @@ module _ (setup : Setup) (st : State) (time s : List ℕ) (safe : Safe (st .kept
   acts-ruled len ps n reported.Fill e l law =
       acts-placed len ps n (place (st .kept .slots) (slotIn ps)) l (law (fill-told (reportIn ps) e .0)) refl
 
-  acts-judged : (len : ℕ) (ps : Pieces) (v : Verdict) → judge setup (sessionOf st) ps ≡ v → Acts st (Message time s) (judgedBy setup st time len ps v)
-  unfolding judgedBy
+  acts-judged : (len : ℕ) (ps : Pieces) (v : Verdict) → judge setup (sessionOf st) ps ≡ v → Acts st (Message time s) (carriedOut setup st time len ps (judgedBy st ps v))
+  unfolding carriedOut judgedBy
   acts-judged len ps (Settled j) e =
       acts-settled len ps j (judge-settles setup (sessionOf st) ps o-most (safe .sound .expected) j e .onward) (settled-unbooked setup (sessionOf st) ps j e)
   acts-judged len ps (Report n) e =
@@ -236,9 +255,9 @@ module _ (setup : Setup) (st : State) (time s : List ℕ) (safe : Safe (st .kept
       acts-ruled len ps n (reportedIn ps) refl low (report-lawful setup (st .phase) (st .kept .o) ps (t .fault) (t .kind))
 
   acts-found : (f : Found) → Acts st (Message time s) (foundTo setup st time s f)
-  unfolding foundTo framed
-  acts-found found.More = acts-quiet st (Message time s) More refl refl refl
-  acts-found (found.Garbled skip) = acts-quiet st (Message time s) (Garbled skip) refl refl refl
+  unfolding foundTo framed deedOf
+  acts-found found.More = acts-quiet st (Message time s) More refl refl refl refl
+  acts-found (found.Garbled skip) = acts-quiet st (Message time s) (Garbled skip) refl refl refl refl
   acts-found (found.Framed len) =
       let ps : Pieces = piecesOf (bodyIn len s) in
       acts-judged len ps (judge setup (sessionOf st) ps) refl
@@ -279,10 +298,11 @@ shown-next st h f fs e m =
     }
 
 acts-offering : (st : State) (fs : List Slot) → drop (st .offered) (st .kept .slots) ≡ fs → Acts st Offer (offerOf st (first fs))
-acts-offering st [] e = acts-quiet st Offer None refl refl refl
+acts-offering st [] e = acts-quiet st Offer None refl refl refl refl
 acts-offering st (f ∷ fs) e = record {
   notes = refl;
   tells = tells-none st (offerOf st (some f)) refl refl;
+  acks = λ h. contrary h refl;
   marks = λ h m. shown-next st h f fs e m;
 }
 
@@ -298,6 +318,7 @@ unfolding beginAgain
 acts-begin st mk = record {
   notes = refl;
   tells = tells-none st (quiet Done (offering (st .kept .acked) st)) refl refl;
+  acks = λ h. contrary h refl;
   marks = λ h m. record {
     low = omega arith;
     high = mk;
@@ -317,6 +338,7 @@ acts-acked st n h g high = record {
     says = refl;
   };
   tells = tells-none st (noting Acked (Marks n) (keeping st (after (st .kept) (Marks n)))) refl refl;
+  acks = λ h. refl;
   marks = λ x m. record { low = h; high = m .high; base = omega (arith, m .base); given = append-nil (x .given) ∙ m .given };
 }
 
@@ -324,7 +346,7 @@ acts-acknowledge : (st : State) (n : ℕ) → st .offered ≤ length (st .kept .
 unfolding acknowledge
 acts-acknowledge st n high h =
     of-cond (Acts st (Acknowledge n)) (leb n (st .kept .acked))
-    (λ _. acts-quiet st (Acknowledge n) Already refl refl refl)
+    (λ _. acts-quiet st (Acknowledge n) Already refl refl refl refl)
     (λ b. acts-acked st n h (leb-false n (st .kept .acked) b) high)
 
 nil-of : (l : List Slot) → length l ≡ 0 → l ≡ []
@@ -357,6 +379,7 @@ acts-day st safe h =
     (λ e. record {
       notes = empty-path (st .kept) safe e;
       tells = tells-day st (quiet Done (woken empty)) refl refl;
+      acks = λ h. contrary h refl;
       marks = λ x m. stands-fresh;
     })
     (λ _. record {
@@ -367,8 +390,15 @@ acts-day st safe h =
         says = refl;
       };
       tells = tells-day st (noting Done Clears (woken empty)) refl refl;
+      acks = λ h. contrary h refl;
       marks = λ x m. stands-fresh;
     })
+
+-- a refused restart changes nothing
+acts-restart : (st : State) (notes : List ℕ) (o : Restarting) → restart notes ≡ o → startsAgain (Restart notes) ≡ false → Acts st (Restart notes) (restarted st o)
+unfolding restarted
+acts-restart st notes (Again q whole) e r = contrary (ap isAgain e) r
+acts-restart st notes (Unlawful at) e r = acts-quiet st (Restart notes) (Refused (refusal.Unlawful at)) r refl refl refl
 
 -- ---- refusals
 
@@ -400,7 +430,7 @@ refused-anew st b New-day why h = refl
 refused-anew st b (Restart notes) why h = none-some why h
 
 module _ (setup : Setup) where
-  acts-unrefused : (st : State) (b : Lent) (w : What) → isRestart w ≡ false → Safe (st .kept) → st .offered ≤ length (st .kept .slots) → refusalOf st b w ≡ none
+  acts-unrefused : (st : State) (b : Lent) (w : What) → startsAgain w ≡ false → Safe (st .kept) → st .offered ≤ length (st .kept .slots) → refusalOf st b w ≡ none
       → Acts st w (unrefused setup st w)
   unfolding refusalOf unrefused
   acts-unrefused st b (Own-call own time) r safe high h = acts-owned setup st time own (safe .sound .expected) (o-bound b time (mayCall own (st .phase)) (st .kept .o) h)
@@ -415,13 +445,50 @@ module _ (setup : Setup) where
       let x = neither refusal.ShortBuffer (shortNote (b .note)) _ h in
       let y = neither refusal.WrongPhase (isOn (st .phase)) _ (x .1) in
       acts-day st safe (ltb-false (st .kept .acked) (length (st .kept .slots)) (not-refused refusal.StillWaiting (ltb (st .kept .acked) (length (st .kept .slots))) (y .1)))
-  acts-unrefused st b (Restart notes) r safe high h = contrary refl r
+  acts-unrefused st b (Restart notes) r safe high h = acts-restart st notes (restart notes) refl r
 
   -- every call but a restart
-  pub acts : (st : State) (b : Lent) (w : What) → isRestart w ≡ false → Safe (st .kept) → st .offered ≤ length (st .kept .slots) → Acts st w (does setup st b w)
+  pub acts : (st : State) (b : Lent) (w : What) → startsAgain w ≡ false → Safe (st .kept) → st .offered ≤ length (st .kept .slots) → Acts st w (does setup st b w)
   unfolding does
   acts st b w r safe high = go (refusalOf st b w) refl
     where
       go : (o : Option Refusal) → refusalOf st b w ≡ o → Acts st w (unless-refused st o (unrefused setup st w))
       go none e = acts-unrefused st b w r safe high e
-      go (some why) e = acts-quiet st w (Refused why) (refused-anew st b w why e) refl refl
+      go (some why) e = acts-quiet st w (Refused why) (refused-anew st b w why e) refl refl refl
+
+-- ---- a call without a note
+
+again-silent : (st : State) (o : Restarting) → (numberTold (restarted st o .answer) ≡ none) × (isAcked (restarted st o .answer) ≡ false)
+unfolding restarted
+again-silent st (Again q whole) = (refl, refl)
+again-silent st (Unlawful at) = (refl, refl)
+
+module _ (setup : Setup) (st : State) (b : Lent) where
+  starting-silent : (w : What) → startsAgain w ≡ true → (numberTold (does setup st b w .answer) ≡ none) × (isAcked (does setup st b w .answer) ≡ false)
+  unfolding does refusalOf unrefused
+  starting-silent (Own-call own time) h = contrary h refl
+  starting-silent Line-lost h = contrary h refl
+  starting-silent (Message time s) h = contrary h refl
+  starting-silent Offer h = contrary h refl
+  starting-silent Begin-again h = contrary h refl
+  starting-silent (Acknowledge n) h = contrary h refl
+  starting-silent New-day h = contrary h refl
+  starting-silent (Restart notes) h = again-silent st (restart notes)
+
+  acts-silent : (w : What) (d : Did) → Acts st w d → d .note ≡ none → (numberTold (d .answer) ≡ none) × (isAcked (d .answer) ≡ false)
+  acts-silent w d x e = (
+    none-told (numberTold (d .answer)) (λ n h. let p = x .tells n .0 h in
+        no-snoc (st .kept .slots) (p .0) (sym (ap (λ (q : Kept). q .slots) (subst (NoteSays (st .kept) w (d .next .kept)) e (x .notes))) ∙ p .1 .slots)),
+    ⊎-elim (λ h. contrary (ap isNone e) (x .acks h)) (λ h. h) (bool-case (isAcked (d .answer))),
+  )
+    where
+      none-told : (o : Option ℕ) → ((n : ℕ) → o ≡ some n → none ≡ o) → o ≡ none
+      none-told none f = refl
+      none-told (some n) f = sym (f n refl)
+
+  pub silent : (w : What) → (startsAgain w ≡ false → Acts st w (does setup st b w)) → does setup st b w .note ≡ none
+      → (numberTold (does setup st b w .answer) ≡ none) × (¬ (does setup st b w .answer ≡ Acked))
+  silent w x e =
+      let r : (numberTold (does setup st b w .answer) ≡ none) × (isAcked (does setup st b w .answer) ≡ false) =
+      ⊎-elim (λ h. starting-silent w h) (λ h. acts-silent w (does setup st b w) (x h) e) (bool-case (startsAgain w)) in
+      (r .0, λ h. contrary (ap isAcked h) (r .1))

@@ -1,0 +1,311 @@
+-- What a call is given, as a message that it writes can hold it: IDs that were granted, a time that is not refused, and the word of a framed message have no byte 1.
+--     agreed     the IDs of a set-up that was granted
+--     time-clear     a time that is not refused
+--     text-plain, type-clear     the values of a message, and the type of a framed one
+--     fault-small     the numbers of a fault
+use Prim.Native.Nat.{ℕ, zero, suc, _+_, _^_, _≤_, _<_}
+use mathlib.Core.Path.{_≡_, refl, sym, ap, _∙_, subst}
+use mathlib.Core.Logic.{⊎-elim}
+use mathlib.Core.List.{List, [], _∷_, _++_, append-assoc}
+use mathlib.Core.Option.{Option, none, some}
+use mathlib.Core.Bool.{Bool, true, false, cond, _&&_, not}
+use native.Mathlib.Omega.{arith}
+use lib.ListN.{length, take, drop, getD, replicate}
+use lib.Seq.{take-all}
+use lib.Dec.{ltb, eqb}
+use borrow.Author.Tests.{eqb-true, ltb-true}
+use Rattle.octet.specs.Bytes.{bytesOf, between, allIn, untilByte}
+use Rattle.octet.specs.Maybe.{isNone, orElse, first, unless}
+use Rattle.octet.specs.Splice.{splice}
+use Rattle.octet.proofs.Cases.{of-cond, bool-case, contrary, and-both}
+use Rattle.octet.proofs.Lists.{splice-take, until-in, between-low, between-high, is-between}
+use Rattle.text.specs.Decimal.{digitRun, digits}
+use Rattle.value.specs.Value.{likeByte, likeRun, timePattern, timeLong, badTime, isTime}
+use Rattle.value.proofs.Numbers.{front-below}
+use Rattle.frame.specs.Finding.{opening, foundIn, bodyIn}
+use Rattle.frame.specs.declared.Found.the-variants as found
+use Rattle.frame.proofs.Bodies.{body-parts}
+use Rattle.frame.proofs.Sound.{sound}
+use Rattle.field.specs.Pieces.{Pieces, onFirst, piecesOf, tagged, valued, carries, valuesOf, textAt, pieceScan, andThen, scanOf}
+use Rattle.field.specs.declared.Scan.{Scan}
+use Rattle.field.specs.declared.Scan.the-variants as scan
+use Rattle.field.proofs.Cuts.{pieces-mark}
+use Rattle.answer.specs.Setup.{idOf, idWith, ours, theirs}
+use Rattle.answer.specs.Numbers.{inside}
+use Rattle.answer.specs.declared.Setup.{Setup}
+use Rattle.answer.specs.declared.Fault.{Fault}
+use Rattle.answer.specs.declared.Phase.{Phase}
+use Rattle.answer.specs.declared.Kind.{Kind}
+use Rattle.answer.specs.declared.Kind.the-variants as kind
+use Rattle.table.specs.Rows.{tableOf, kindIn}
+use Rattle.table.specs.Steps.{Look, atPieces, givenOf, checkFault, valueCheck, rowFault, applies, rowFaultAt, walk, scanFault, kindFault, firstFault, faultIn}
+use Rattle.table.specs.declared.Row.{Row}
+use Rattle.table.specs.declared.Row.the-variants as row
+use Rattle.table.specs.declared.Given.{Given}
+use Rattle.table.specs.declared.Form.{Form}
+use Rattle.value.specs.declared.Check.{Check}
+use Rattle.value.specs.declared.Check.the-variants as check
+use Rattle.wire.specs.Sending.{SmallFault}
+use Rattle.wire.specs.Reading.{Clear}
+use Rattle.receiver.specs.Receiver.{goodId, setupWith, settingUp, badGiven}
+use Rattle.receiver.specs.declared.SetUp.{SetUp}
+use Rattle.receiver.specs.declared.Leave.{Leave}
+use Rattle.receiver.specs.declared.Leave.the-variants as leave
+use Rattle.promise.specs.WrittenRead.{Granted}
+
+abbrev Unmarked : List ℕ → Type 0
+Unmarked v = untilByte 1 v ≡ length v
+
+-- ---- the agreed IDs
+
+pub record Agreed (setup : Setup) : Type 0 where
+  pub sender : Clear (ours setup)
+  pub target : Clear (theirs setup)
+  pub widths : (length (ours setup) ≤ 16) × (length (theirs setup) ≤ 16)
+
+id-back : (t : List ℕ) → length t ≤ 16 → idOf (idWith t) ≡ t
+unfolding idWith
+id-back t h =
+    let z : length t ≡ 0 + length t = omega arith in
+    let zeros : List ℕ = replicate 16 0 in
+    let l : length zeros ≡ 16 = refl in
+    ap (λ (n : ℕ). take n (splice zeros 0 t)) z ∙ splice-take zeros 0 t (omega arith)
+
+record GoodId (id : List ℕ) : Type 0 where
+  clear : Clear id
+  short : length id ≤ 16
+
+good-id : (t : List ℕ) → goodId t ≡ true → GoodId (idOf (idWith t))
+good-id t h =
+    let p = and-both (between 1 16 (length t)) (allIn 33 126 t) h in
+    let most = between-high 1 16 (length t) (p .0) in
+    subst GoodId (sym (id-back t most)) (record { clear = (between-low 1 16 (length t) (p .0), until-in 1 33 126 t (p .1) refl); short = most })
+
+isGranted : Leave → Bool
+isGranted leave.Granted = true
+isGranted (leave.Refused why) = false
+
+pub agreed : (setup : Setup) → Granted setup → Agreed setup
+unfolding settingUp setupWith isGranted
+agreed setup g =
+    let a : List ℕ = g .0 in
+    let b : List ℕ = g .1 in
+    let e = g .2 in
+    ⊎-elim
+    (λ h. let p = and-both (goodId a) (goodId b) h in
+    let x = good-id a (p .0) in
+    let y = good-id b (p .1) in
+    let u : settingUp a b ≡ record { leave = leave.Granted; setup = setupWith a b } = rw h in
+    let s : setupWith a b ≡ setup = ap (λ (z : SetUp). z .setup) (sym u ∙ e) in
+    subst Agreed s (record { sender = x .clear; target = y .clear; widths = (x .short, y .short) }))
+    (λ h. let no : isGranted (settingUp a b .leave) ≡ false = rw h in contrary (ap (λ (z : SetUp). isGranted (z .leave)) e) no)
+    (bool-case (goodId a && goodId b))
+
+-- ---- the given time
+
+like-byte : (t b : ℕ) → likeByte t b ≡ true → between 45 58 t ≡ true → between 45 58 b ≡ true
+like-byte t b h k = go (between 48 57 t) h
+  where
+    go : (x : Bool) → cond x (between 48 57 b) (eqb t b) ≡ true → between 45 58 b ≡ true
+    go true e = let l = between-low 48 57 b e in let m = between-high 48 57 b e in is-between 45 58 b (omega arith) (omega arith)
+    go false e = subst (λ (y : ℕ). between 45 58 y ≡ true) (eqb-true t b e) k
+
+like-all : (p v : List ℕ) → likeRun p v ≡ length v → allIn 45 58 p ≡ true → allIn 45 58 v ≡ true
+like-all [] [] h e = refl
+like-all [] (b ∷ v) h e = absurd (omega arith)
+like-all (t ∷ p) [] h e = refl
+like-all (t ∷ p) (b ∷ v) h e =
+    let d = and-both (between 45 58 t) (allIn 45 58 p) e in
+    let q : (likeByte t b ≡ true) × (likeRun p v ≡ length v) =
+    of-cond (λ (n : ℕ). n ≡ suc (length v) → (likeByte t b ≡ true) × (likeRun p v ≡ length v)) (likeByte t b)
+    (λ x y. (x, omega arith)) (λ x y. absurd (omega arith)) h in
+    rw (like-byte t b (q .0) (d .0)) (like-all p v (q .1) (d .1))
+
+time-formed : (v : List ℕ) → isNone (badTime v) ≡ true → likeRun timePattern v ≡ length v
+unfolding badTime
+time-formed v h =
+    ⊎-elim
+    (λ x. eqb-true (likeRun timePattern v) (length v) (and-both (eqb (likeRun timePattern v) (length v)) (timeLong (length v)) x .0))
+    (λ x. contrary h (rw x))
+    (bool-case (eqb (likeRun timePattern v) (length v) && timeLong (length v)))
+
+not-false : (t : Bool) → not t ≡ false → t ≡ true
+not-false true h = refl
+not-false false h = sym h
+
+pub time-clear : (time : List ℕ) → badGiven time ≡ false → Clear time × (length time ≡ 21)
+unfolding badGiven
+time-clear time h =
+    let p = and-both (eqb (length time) 21) (isTime time) (not-false (eqb (length time) 21 && isTime time) h) in
+    let q = and-both (isNone (badTime time)) _ (p .1) in
+    let l : length time ≡ 21 = eqb-true (length time) 21 (p .0) in
+    ((omega arith, until-in 1 45 58 time (like-all timePattern time (time-formed time (q .0)) refl) refl), l)
+
+-- ---- the values of a message have no `|`
+
+until-head : (b : ℕ) (s : List ℕ) → Unmarked (b ∷ s) → (eqb b 1 ≡ false) × Unmarked s
+until-head b s h =
+    of-cond (λ (n : ℕ). n ≡ suc (length s) → (eqb b 1 ≡ false) × Unmarked s) (eqb b 1)
+    (λ x y. absurd (omega arith)) (λ x y. (x, omega arith)) h
+
+until-cons : (b : ℕ) (s : List ℕ) → eqb b 1 ≡ false → Unmarked s → Unmarked (b ∷ s)
+until-cons b s h e = rw h (ap suc e)
+
+drop-plain : (n : ℕ) (s : List ℕ) → Unmarked s → Unmarked (drop n s)
+drop-plain zero s h = h
+drop-plain (suc n) [] h = h
+drop-plain (suc n) (b ∷ s) h = drop-plain n s (until-head b s h .1)
+
+pub take-plain : (n : ℕ) (s : List ℕ) → Unmarked s → Unmarked (take n s)
+take-plain zero s h = refl
+take-plain (suc n) [] h = h
+take-plain (suc n) (b ∷ s) h = let p = until-head b s h in until-cons b (take n s) (p .0) (take-plain n s (p .1))
+
+abbrev Plain : Pieces → Type 0
+Plain [] = Unit {0}
+Plain (p ∷ ps) = Unmarked p × Plain ps
+
+on-first : (b : ℕ) (ps : Pieces) → eqb b 1 ≡ false → Plain ps → Plain (onFirst b ps)
+on-first b [] h e = (until-cons b [] h refl, tt)
+on-first b (p ∷ ps) h e = (until-cons b p h (e .0), e .1)
+
+pub pieces-plain : (s : List ℕ) → Plain (piecesOf s)
+unfolding piecesOf
+pieces-plain [] = tt
+pieces-plain (b ∷ s) = of-cond Plain (eqb b 1) (λ h. (refl, pieces-plain s)) (λ h. on-first b (piecesOf s) h (pieces-plain s))
+
+values-plain : (tag : ℕ) (ps : Pieces) → Plain ps → Plain (valuesOf tag ps)
+unfolding valuesOf
+values-plain tag [] h = tt
+values-plain tag (p ∷ ps) h =
+    of-cond Plain (carries tag p) (λ x. (drop-plain (digitRun p + 1) p (h .0), values-plain tag ps (h .1))) (λ x. values-plain tag ps (h .1))
+
+first-plain : (ps : Pieces) → Plain ps → Unmarked (unless [] (first ps))
+first-plain [] h = refl
+first-plain (p ∷ ps) h = h .0
+
+pub text-plain : (tag : ℕ) (s : List ℕ) → Unmarked (textAt tag (piecesOf s))
+text-plain tag s = first-plain (valuesOf tag (piecesOf s)) (values-plain tag (piecesOf s) (pieces-plain s))
+
+-- ---- the type of a framed message: "The body begins `35=`, 1 to 3 bytes, `|`"
+
+type-plain : (t : List ℕ) → Unmarked t → Unmarked (bytesOf "35=" ++ t)
+type-plain t h = ap (λ (n : ℕ). suc (suc (suc n))) h
+
+type-first : (t more : List ℕ) → Unmarked t → textAt 35 (piecesOf (bytesOf "35=" ++ t ++ bytesOf "|" ++ more)) ≡ t
+unfolding valuesOf carries
+type-first t more h =
+    ap (λ (s : List ℕ). textAt 35 (piecesOf s)) (append-assoc (bytesOf "35=" ++ t) (bytesOf "|") more)
+    ∙ ap (textAt 35) (pieces-mark (bytesOf "35=" ++ t) more (type-plain t h))
+
+pub type-clear : (s : List ℕ) (len : ℕ) → foundIn s ≡ found.Framed len → Clear (take 3 (textAt 35 (piecesOf (bodyIn len s))))
+type-clear s len h =
+    let b = bodyIn len s in
+    let x = body-parts b (sound opening s len h .parts .body) in
+    let t : List ℕ = take (untilByte 1 (drop 3 b)) (drop 3 b) in
+    let e : textAt 35 (piecesOf b) ≡ t = ap (λ (y : List ℕ). textAt 35 (piecesOf y)) (x .typed) ∙ type-first t _ (x .plain) in
+    let f : take 3 t ≡ t = take-all 3 t (x .few) in
+    subst Clear (sym (ap (take 3) e ∙ f)) (x .some, x .plain)
+
+-- ---- the numbers of a fault
+
+abbrev pub SmallIf : Option Fault → Type 0
+SmallIf none = Unit {0}
+SmallIf (some f) = SmallFault f
+
+pub or-small : (p q : Option Fault) → SmallIf p → SmallIf q → SmallIf (orElse p q)
+or-small none q h k = k
+or-small (some f) q h k = h
+
+abbrev SmallScan : Scan → Type 0
+SmallScan scan.Sound = Unit {0}
+SmallScan scan.Malformed = Unit {0}
+SmallScan (scan.Empty tag) = tag < 2 ^ 32
+
+-- a tag has 1 to 5 digits
+piece-small : (p : List ℕ) → SmallScan (pieceScan p)
+unfolding pieceScan
+piece-small p =
+    of-cond SmallScan (tagged p)
+    (λ t. of-cond SmallScan (valued p) (λ _. tt)
+    (λ _. let a = and-both (between 1 5 (digitRun p) && not (eqb (getD p 0 0) 48)) (eqb (getD p (digitRun p) 0) 61) t in
+    let b = and-both (between 1 5 (digitRun p)) (not (eqb (getD p 0 0) 48)) (a .0) in
+    let c : digits (take (digitRun p) p) < 10 ^ 5 = front-below (digitRun p) 5 p (omega arith) (between-high 1 5 (digitRun p) (b .0)) in
+    omega arith))
+    (λ _. tt)
+
+then-small : (a b : Scan) → SmallScan a → SmallScan b → SmallScan (andThen a b)
+then-small scan.Sound b h k = k
+then-small scan.Malformed b h k = tt
+then-small (scan.Empty tag) b h k = h
+
+scan-small : (ps : Pieces) → SmallScan (scanOf ps)
+unfolding scanOf
+scan-small [] = tt
+scan-small (p ∷ ps) = then-small (pieceScan p) (scanOf ps) (piece-small p) (scan-small ps)
+
+scanned-small : (c : Scan) → SmallScan c → SmallIf (scanFault c)
+scanned-small scan.Sound h = tt
+scanned-small scan.Malformed h = (omega arith, omega arith)
+scanned-small (scan.Empty tag) h = (h, omega arith)
+
+kind-small : (phase : Phase) (k : Kind) → SmallIf (kindFault phase k)
+kind-small phase kind.Logon = of-cond SmallIf (inside phase) (λ _. (omega arith, omega arith)) (λ _. tt)
+kind-small phase kind.Heartbeat = tt
+kind-small phase kind.Test = tt
+kind-small phase kind.Resend = tt
+kind-small phase kind.Reset = tt
+kind-small phase kind.Logout = tt
+kind-small phase kind.Report = tt
+kind-small phase kind.Other = tt
+kind-small phase kind.Unlisted = (omega arith, omega arith)
+
+-- the tags of the table
+abbrev tagIn : Row → ℕ
+tagIn (row.Needs tag form place) = tag
+tagIn (row.May tag form place) = tag
+
+abbrev smallRows : List Row → Bool
+smallRows [] = true
+smallRows (r ∷ rows) = ltb (tagIn r) 1000 && smallRows rows
+
+table-small : (setup : Setup) (k : Kind) → smallRows (tableOf setup k) ≡ true
+table-small setup kind.Logon = refl
+table-small setup kind.Heartbeat = refl
+table-small setup kind.Test = refl
+table-small setup kind.Resend = refl
+table-small setup kind.Reset = refl
+table-small setup kind.Logout = refl
+table-small setup kind.Report = refl
+table-small setup kind.Other = refl
+table-small setup kind.Unlisted = refl
+
+check-small : (tag : ℕ) (c : Check) → tag < 1000 → SmallIf (checkFault tag c)
+check-small tag check.Good h = tt
+check-small tag (check.BadForm at) h = (omega arith, omega arith)
+check-small tag check.OutOfRange h = (omega arith, omega arith)
+
+row-small : (given : Given) (number : ℕ → ℕ) (tag : ℕ) (needed : Bool) (form : Form) (vs : Pieces) → tag < 1000 → SmallIf (rowFault given number tag needed form vs)
+unfolding rowFault
+row-small given number tag needed form [] h = of-cond SmallIf needed (λ _. (omega arith, omega arith)) (λ _. tt)
+row-small given number tag needed form (v ∷ []) h = check-small tag (valueCheck given number form v) h
+row-small given number tag needed form (v ∷ w ∷ vs) h = (omega arith, omega arith)
+
+row-at-small : (given : Given) (look : Look) (r : Row) → tagIn r < 1000 → SmallIf (rowFaultAt given look r)
+row-at-small given look (row.Needs tag form place) h =
+    of-cond SmallIf (applies given place) (λ _. row-small given (look .number) tag true form (look .values tag) h) (λ _. tt)
+row-at-small given look (row.May tag form place) h =
+    of-cond SmallIf (applies given place) (λ _. row-small given (look .number) tag false form (look .values tag) h) (λ _. tt)
+
+walk-small : (given : Given) (look : Look) (rows : List Row) → smallRows rows ≡ true → SmallIf (walk given look rows)
+unfolding walk
+walk-small given look [] h = tt
+walk-small given look (r ∷ rows) h =
+    let p = and-both (ltb (tagIn r) 1000) (smallRows rows) h in
+    or-small (rowFaultAt given look r) (walk given look rows) (row-at-small given look r (ltb-true (tagIn r) 1000 (p .0))) (walk-small given look rows (p .1))
+
+pub fault-small : (setup : Setup) (phase : Phase) (o : ℕ) (ps : Pieces) → SmallIf (faultIn setup phase o ps)
+unfolding faultIn firstFault
+fault-small setup phase o ps =
+    or-small (scanFault (scanOf ps)) _ (scanned-small (scanOf ps) (scan-small ps))
+    (or-small (kindFault phase (kindIn setup ps)) _ (kind-small phase (kindIn setup ps)) (walk-small (givenOf phase o) (atPieces ps) (tableOf setup (kindIn setup ps)) (table-small setup (kindIn setup ps))))
