@@ -12,9 +12,9 @@ use borrow.Author.Tests.{le-ltb, lt-leb, le-leb}
 use Rattle.octet.specs.Bytes.{bytesOf, allIn, agree}
 use Rattle.octet.proofs.Lists.{agree-self, run-before, is-between}
 use Rattle.text.specs.Decimal.{digits, digitRun, checkSum}
-use Rattle.frame.specs.Finding.{bodyOk, trailerOf, judgeWhole, judgeLength, judgeDigits, judge, foundBy, bodyBy}
+use Rattle.frame.specs.Finding.{bodyOk, trailerOf, judgeWhole, judgeLength, judgeDigits, judgeOpening, foundBy, bodyBy}
 use Rattle.frame.specs.declared.Found.the-variants.{Framed}
-use Rattle.frame.specs.declared.Verdict.the-variants.{Whole}
+use Rattle.frame.specs.declared.Standing.the-variants.{Whole}
 
 -- 1 to 4 digits that write the length of a body, and the body
 pub record Parts (ds b : List ℕ) : Type 0 where
@@ -111,8 +111,8 @@ module _ (o ds b rest : List ℕ) (p : Parts ds b) where
       )
       length-found
 
-  judge-found : judge o s ≡ Whole (begin o ds + length b + 7)
-  unfolding judge
+  judge-found : judgeOpening o s ≡ Whole (begin o ds + length b + 7)
+  unfolding judgeOpening
   judge-found =
       let e : agree (o ++ bytesOf "9=") s ≡ true =
       rw (opened o ds b tail) (agree-self (o ++ bytesOf "9=") (ds ++ (1 ∷ (b ++ tail)))) in

@@ -15,10 +15,10 @@ use Rattle.octet.specs.Bytes.{bytesOf, between, agree, part}
 use Rattle.octet.proofs.Cases.{of-cond, le-or-lt}
 use Rattle.octet.proofs.Lists.{part-first, run-most}
 use Rattle.text.specs.Decimal.{digitRun, digits, checkSum}
-use Rattle.frame.specs.Finding.{bodyOk, trailerOf, skipOf, answered, judgeWhole, judgeLength, judgeDigits, judge, foundBy}
+use Rattle.frame.specs.Finding.{bodyOk, trailerOf, skipOf, answered, judgeWhole, judgeLength, judgeDigits, judgeOpening, foundBy}
 use Rattle.frame.specs.declared.Found.the-variants.{Garbled}
-use Rattle.frame.specs.declared.Verdict.{Verdict}
-use Rattle.frame.specs.declared.Verdict.the-variants.{Short, Failed, Whole}
+use Rattle.frame.specs.declared.Standing.{Standing}
+use Rattle.frame.specs.declared.Standing.the-variants.{Short, Failed, Whole}
 use Rattle.frame.proofs.Agree.{agree-longer, agree-differs}
 use Rattle.frame.proofs.Bounds.{answered-garbled}
 use Rattle.frame.proofs.Steps.{digits-past}
@@ -41,22 +41,22 @@ digitRun-more (b ∷ u) t = go (between 48 57 b) (digitRun-more u t)
     go false f = zero-le
 
 -- a verdict that is Failed is so later
-abbrev Stays : Verdict → Verdict → Type 0
+abbrev Stays : Standing → Standing → Type 0
 Stays Short w = Unit {0}
 Stays Failed w = w ≡ Failed
 Stays (Whole n) w = Unit {0}
 
-stays : (v w : Verdict) → w ≡ v → Stays v w
+stays : (v w : Standing) → w ≡ v → Stays v w
 stays Short w e = tt
 stays Failed w e = e
 stays (Whole n) w e = tt
 
-or-fail : (a : Bool) (v w : Verdict) → Stays v w → Stays (cond a v Failed) (cond a w Failed)
+or-fail : (a : Bool) (v w : Standing) → Stays v w → Stays (cond a v Failed) (cond a w Failed)
 or-fail true v w h = h
 or-fail false v w h = refl
 
 -- what `judgeWhole` says of a message that is there
-abbrev rest : ℕ → ℕ → List ℕ → Verdict
+abbrev rest : ℕ → ℕ → List ℕ → Standing
 rest at n s =
     cond (bodyOk (part at n s) && agree (trailerOf (checkSum (take (at + n) s))) (drop (at + n) s)) (Whole (at + n + 7)) Failed
 
@@ -77,7 +77,7 @@ module _ (s t : List ℕ) where
   whole-stays : (at n : ℕ) → Stays (judgeWhole at n s) (judgeWhole at n (s ++ t))
   unfolding judgeWhole
   whole-stays at n =
-      of-cond (λ (v : Verdict). Stays v (judgeWhole at n (s ++ t))) (ltb (length s) (at + n + 7)) (λ e. tt)
+      of-cond (λ (v : Standing). Stays v (judgeWhole at n (s ++ t))) (ltb (length s) (at + n + 7)) (λ e. tt)
       (λ e.
       let l = ltb-false (length s) (at + n + 7) e in
       rw (le-ltb (length (s ++ t)) (at + n + 7) (omega (arith, longer))) (stays (rest at n s) (rest at n (s ++ t)) (rest-stays at n l)))
@@ -99,13 +99,13 @@ module _ (s t : List ℕ) where
   digits-stays : (at : ℕ) → Stays (judgeDigits at s) (judgeDigits at (s ++ t))
   unfolding judgeDigits
   digits-stays at =
-      let W : Verdict = judgeDigits at (s ++ t) in
+      let W : Standing = judgeDigits at (s ++ t) in
       let d = digitRun (drop at s) in
       let mark = leb 1 d && eqb (getD s (at + d) 0) 1 in
       let n = digits (part at d s) in
-      of-cond (λ (v : Verdict). Stays v W) (ltb 4 d)
+      of-cond (λ (v : Standing). Stays v W) (ltb 4 d)
       (λ e. rw (lt-ltb 4 (digitRun (drop at (s ++ t))) (many at (ltb-true 4 d e))))
-      (λ e. of-cond (λ (v : Verdict). Stays v W) (leb (length s) (at + d)) (λ f. tt)
+      (λ e. of-cond (λ (v : Standing). Stays v W) (leb (length s) (at + d)) (λ f. tt)
       (λ f.
       let there : at + d < length s = leb-false (length s) (at + d) f in
       let far : ltb 4 d ≡ false = e in
@@ -118,15 +118,15 @@ module _ (s t : List ℕ) where
       )
       (or-fail mark (judgeLength (at + d + 1) n s) (judgeLength (at + d + 1) n (s ++ t)) (length-stays (at + d + 1) n))))
 
-  judge-stays : (o : List ℕ) → Stays (judge o s) (judge o (s ++ t))
-  unfolding judge
+  judge-stays : (o : List ℕ) → Stays (judgeOpening o s) (judgeOpening o (s ++ t))
+  unfolding judgeOpening
   judge-stays o =
       let head = o ++ bytesOf "9=" in
-      of-cond (λ (v : Verdict). Stays v (judge o (s ++ t))) (agree (o ++ bytesOf "9=") s)
+      of-cond (λ (v : Standing). Stays v (judgeOpening o (s ++ t))) (agree (o ++ bytesOf "9=") s)
       (λ e. ⊎-elim
       (λ (h : length head ≤ length s). rw (agree-longer head s t h, e) (digits-stays (length o + 2)))
       (λ (h : length s < length head).
-      subst (λ (v : Verdict). Stays v (judge o (s ++ t)))
+      subst (λ (v : Standing). Stays v (judgeOpening o (s ++ t)))
       (sym (digits-past (length o + 2) s (omega (arith, length-append o (bytesOf "9="))))) tt)
       (le-or-lt (length head) (length s)))
       (λ e. rw (agree-differs (o ++ bytesOf "9=") s t e))
@@ -134,6 +134,6 @@ module _ (s t : List ℕ) where
 pub garbled-longer : (o s t : List ℕ) (p : ℕ) → foundBy o s ≡ Garbled p → foundBy o (s ++ t) ≡ Garbled (skipOf o (s ++ t))
 unfolding foundBy
 garbled-longer o s t p e =
-    let h : judge o s ≡ Failed = answered-garbled (judge o s) (skipOf o s) p e .0 in
-    let f : judge o (s ++ t) ≡ Failed = subst (λ (v : Verdict). Stays v (judge o (s ++ t))) h (judge-stays s t o) in
-    ap (λ (v : Verdict). answered v (skipOf o (s ++ t))) f
+    let h : judgeOpening o s ≡ Failed = answered-garbled (judgeOpening o s) (skipOf o s) p e .0 in
+    let f : judgeOpening o (s ++ t) ≡ Failed = subst (λ (v : Standing). Stays v (judgeOpening o (s ++ t))) h (judge-stays s t o) in
+    ap (λ (v : Standing). answered v (skipOf o (s ++ t))) f

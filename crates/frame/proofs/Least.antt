@@ -12,7 +12,7 @@ use lib.Seq.{drop-drop}
 use Rattle.octet.specs.Bytes.{agree}
 use Rattle.octet.proofs.Cases.{of-cond, contrary}
 use Rattle.octet.proofs.Lists.{agree-none}
-use Rattle.frame.specs.Finding.{toAgree, skipOf, judge, foundBy}
+use Rattle.frame.specs.Finding.{toAgree, skipOf, judgeOpening, foundBy}
 use Rattle.frame.specs.declared.Found.the-variants.{Garbled}
 use Rattle.frame.proofs.Bounds.{answered-garbled}
 
@@ -54,4 +54,4 @@ skip-only o s p q a b =
 
 pub garbled-skip : (o s : List ℕ) (p : ℕ) → foundBy o s ≡ Garbled p → IsSkip o s p
 unfolding foundBy
-garbled-skip o s p e = subst (IsSkip o s) (answered-garbled (judge o s) (skipOf o s) p e .1) (skip-is o s)
+garbled-skip o s p e = subst (IsSkip o s) (answered-garbled (judgeOpening o s) (skipOf o s) p e .1) (skip-is o s)

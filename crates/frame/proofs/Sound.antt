@@ -15,10 +15,10 @@ use Rattle.octet.specs.Bytes.{bytesOf, between, allIn, agree, part}
 use Rattle.octet.proofs.Cases.{of-cond, and-both}
 use Rattle.octet.proofs.Lists.{agree-begins, length-part, between-low, between-high, run-in}
 use Rattle.text.specs.Decimal.{digitRun, digits, checkSum}
-use Rattle.frame.specs.Finding.{bodyOk, trailerOf, skipOf, judgeWhole, judgeLength, judgeDigits, judge, foundBy, bodyBy}
+use Rattle.frame.specs.Finding.{bodyOk, trailerOf, skipOf, judgeWhole, judgeLength, judgeDigits, judgeOpening, foundBy, bodyBy}
 use Rattle.frame.specs.declared.Found.the-variants.{Framed}
-use Rattle.frame.specs.declared.Verdict.{Verdict}
-use Rattle.frame.specs.declared.Verdict.the-variants.{Short, Failed, Whole}
+use Rattle.frame.specs.declared.Standing.{Standing}
+use Rattle.frame.specs.declared.Standing.the-variants.{Short, Failed, Whole}
 use Rattle.frame.proofs.Bounds.{answered-framed, framed-by-fine}
 use Rattle.frame.proofs.Complete.{Parts, before, message, complete, body-found}
 
@@ -26,7 +26,7 @@ agree-take : (o s : List ℕ) → length o ≤ length s → agree o s ≡ true �
 agree-take o s h e = ap (take (length o)) (agree-begins o s h e) ∙ take-at o (drop (length o) s) (length o) refl
 
 -- the first k bytes are a message, where the verdict is that k bytes are one
-abbrev Put : List ℕ → List ℕ → Verdict → Type 0
+abbrev Put : List ℕ → List ℕ → Standing → Type 0
 Put o s Short = Unit {0}
 Put o s Failed = Unit {0}
 Put o s (Whole k) = (ds : List ℕ) × (b : List ℕ) × Parts ds b × (take k s ≡ message o ds b)
@@ -93,8 +93,8 @@ module _ (o s : List ℕ) where
       length-put ds (at + d + 1) (record { only = run-in 48 57 (drop at s); some = omega arith; few = omega arith }) pre)
       (λ g. tt)))
 
-  judge-put : Put o s (judge o s)
-  unfolding judge
+  judge-put : Put o s (judgeOpening o s)
+  unfolding judgeOpening
   judge-put = of-cond (Put o s) (agree (o ++ bytesOf "9=") s) (λ e. digits-put (length o + 2) refl e) (λ e. tt)
 
 -- a message of n bytes at the front of s: its parts, with the body that is found in it, and what follows
@@ -126,7 +126,7 @@ made o s n h w =
 pub sound : (o s : List ℕ) (n : ℕ) → foundBy o s ≡ Framed n → Made o s n
 unfolding foundBy
 sound o s n e =
-    made o s n (framed-by-fine o s n e .2) (subst (Put o s) (answered-framed (judge o s) (skipOf o s) n e) (judge-put o s))
+    made o s n (framed-by-fine o s n e .2) (subst (Put o s) (answered-framed (judgeOpening o s) (skipOf o s) n e) (judge-put o s))
 
 -- ---- later bytes
 module _ (o s : List ℕ) (n : ℕ) (e : foundBy o s ≡ Framed n) where

@@ -18,13 +18,13 @@ use Rattle.octet.proofs.Cases.{cond-and}
 use Rattle.octet.proofs.Lists.{part-past}
 use Rattle.text.specs.Decimal.{digitRun, digits, digitsAtFront}
 use Rattle.text.specs.declared.Digits.{Digits}
-use Rattle.frame.specs.Finding.{trailerOf, judgeLength, judgeDigits, judge, bodyAt, bodyBy}
-use Rattle.frame.specs.declared.Verdict.the-variants.{Short, Failed}
+use Rattle.frame.specs.Finding.{trailerOf, judgeLength, judgeDigits, judgeOpening, bodyAt, bodyBy}
+use Rattle.frame.specs.declared.Standing.the-variants.{Short, Failed}
 use Rattle.frame.proofs.Agree.{agree-append}
 
 pub judge-two : (o s : List ℕ)
-    → judge o s ≡ cond (agree o s) (cond (agree (bytesOf "9=") (drop (length o) s)) (judgeDigits (length o + 2) s) Failed) Failed
-unfolding judge
+    → judgeOpening o s ≡ cond (agree o s) (cond (agree (bytesOf "9=") (drop (length o) s)) (judgeDigits (length o + 2) s) Failed) Failed
+unfolding judgeOpening
 judge-two o s =
     ap (λ (t : Bool). cond t (judgeDigits (length o + 2) s) Failed) (agree-append o (bytesOf "9=") s)
     ∙ cond-and (agree o s) (agree (bytesOf "9=") (drop (length o) s)) (judgeDigits (length o + 2) s) Failed

@@ -8,8 +8,8 @@ use Rattle.octet.specs.Bytes.{bytesOf, between, agree, untilByte, part}
 use Rattle.text.specs.Decimal.{digitRun, digits, fixed, checkSum}
 use Rattle.frame.specs.declared.Found.{Found}
 use Rattle.frame.specs.declared.Found.the-variants.{More, Garbled, Framed}
-use Rattle.frame.specs.declared.Verdict.{Verdict}
-use Rattle.frame.specs.declared.Verdict.the-variants.{Short, Failed, Whole}
+use Rattle.frame.specs.declared.Standing.{Standing}
+use Rattle.frame.specs.declared.Standing.the-variants.{Short, Failed, Whole}
 
 -- "`8=FIX.4.2|`"
 abbrev pub opening : List ℕ
@@ -40,21 +40,21 @@ unfoldable pub bodyOk : List ℕ → Bool
 bodyOk b = agree (bytesOf "35=") b && typeOk (drop 3 b) && eqb (getD b (length b - 1) 0) 1
 
 -- "the rest when the whole message is there": a body of n bytes from `at` on, and the trailer
-unfoldable pub judgeWhole : ℕ → ℕ → List ℕ → Verdict
+unfoldable pub judgeWhole : ℕ → ℕ → List ℕ → Standing
 judgeWhole at n s =
     cond (ltb (length s) (at + n + trailerWidth)) Short
     (cond (bodyOk (part at n s) && agree (trailerOf (checkSum (take (at + n) s))) (drop (at + n) s)) (Whole (at + n + trailerWidth)) Failed)
 
 -- "BodyLength is 5 to 4,072": the length's value n, where the body begins at `at`
-unfoldable pub judgeLength : ℕ → ℕ → List ℕ → Verdict
+unfoldable pub judgeLength : ℕ → ℕ → List ℕ → Standing
 judgeLength at n s = cond (between 5 4072 n) (judgeWhole at n s) Failed
 
 -- "(the length's value once its `|` is there)"
-abbrev pub judgeValue : ℕ → ℕ → List ℕ → Verdict
+abbrev pub judgeValue : ℕ → ℕ → List ℕ → Standing
 judgeValue at d s = judgeLength (at + d + 1) (digits (part at d s)) s
 
 -- "1 to 4 digits, `|`", from `at` on, as far as bytes have come
-unfoldable pub judgeDigits : ℕ → List ℕ → Verdict
+unfoldable pub judgeDigits : ℕ → List ℕ → Standing
 judgeDigits at s =
     let d = digitRun (drop at s) in
     cond (ltb 4 d) Failed
@@ -62,17 +62,17 @@ judgeDigits at s =
     (cond (leb 1 d && eqb (getD s (at + d) 0) 1) (judgeValue at d s) Failed))
 
 -- "The opening and length field are judged as far as bytes have come"
-unfoldable pub judge : List ℕ → List ℕ → Verdict
-judge o s = cond (agree (o ++ bytesOf "9=") s) (judgeDigits (length o + 2) s) Failed
+unfoldable pub judgeOpening : List ℕ → List ℕ → Standing
+judgeOpening o s = cond (agree (o ++ bytesOf "9=") s) (judgeDigits (length o + 2) s) Failed
 
 -- "Nothing failed and bytes missing: More. Failed: Garbled, with a skip"
-abbrev pub answered : Verdict → ℕ → Found
+abbrev pub answered : Standing → ℕ → Found
 answered Short p = More
 answered Failed p = Garbled p
 answered (Whole n) p = Framed n
 
 unfoldable pub foundBy : List ℕ → List ℕ → Found
-foundBy o s = answered (judge o s) (skipOf o s)
+foundBy o s = answered (judgeOpening o s) (skipOf o s)
 
 abbrev pub foundIn : List ℕ → Found
 foundIn s = foundBy opening s

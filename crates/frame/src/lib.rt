@@ -3,7 +3,8 @@
 ghost use mathlib.Core.Path.{_≡_};
 ghost use Prim.Native.Nat.{_≤_};
 ghost use lib.ListN.{length};
-ghost use Rattle.frame.specs.Finding.{skipOf, trailerOf, bodyOk, judgeWhole, judgeLength, judgeDigits, judge, foundBy, foundIn, bodyBy, bodyIn};
+ghost use Rattle.frame.specs.Finding.{skipOf, trailerOf, bodyOk, judgeWhole, judgeLength, judgeDigits, judgeOpening, foundBy, foundIn, bodyBy, bodyIn};
+use answer::BAR;
 
 // What stands at the front: nothing yet, since bytes are missing; no message, with the bytes to skip; a message, with its length.
 pub enum Found {
@@ -13,16 +14,14 @@ pub enum Found {
 }
 
 // What the judging of the bytes comes to, before the skip is looked for.
-pub enum Verdict {
+pub enum Standing {
     Short,
     Failed,
     Whole(usize),
 }
 
-// "`8=FIX.4.2|`"; `|` is byte 1.
+// "`8=FIX.4.2|`".
 pub const OPENING: [u8; 10] = [b'8', b'=', b'F', b'I', b'X', b'.', b'4', b'.', b'2', BAR];
-
-const BAR: u8 = 1;
 
 // "1 to 4 digits"; "BodyLength is 5 to 4,072"; the trailer is `10=`, three digits, `|`.
 const MOST_DIGITS: usize = 4;
@@ -92,77 +91,77 @@ fn body_ok(b: &[u8]) -> bool
 }
 
 // The rest when the whole message is there: a body of n bytes from `at` on, and the trailer.
-fn judge_whole(s: &[u8], at: usize, n: usize) -> Verdict
+fn judge_whole(s: &[u8], at: usize, n: usize) -> Standing
     requires { ⌜ (at ≤ length (now s)) × ((5 ≤ n) × (n ≤ 4072)) ⌝ }
     ensures { λ r. ⌜ r ≡ judgeWhole at n (now (s .entry)) ⌝ }
 {
     let end = at + n;
     if s.len() < end + TRAILER_WIDTH {
-        return Verdict::Short;
+        return Standing::Short;
     }
     if !body_ok(&s[at..end]) {
-        return Verdict::Failed;
+        return Standing::Failed;
     }
     let t = trailer(text::byte_sum(&s[..end]));
     if !octet::agree(&t, &s[end..]) {
-        return Verdict::Failed;
+        return Standing::Failed;
     }
-    Verdict::Whole(end + TRAILER_WIDTH)
+    Standing::Whole(end + TRAILER_WIDTH)
 }
 
 // The length's value n, where the body begins at `at`.
-fn judge_length(s: &[u8], at: usize, n: usize) -> Verdict
+fn judge_length(s: &[u8], at: usize, n: usize) -> Standing
     requires { ⌜ at ≤ length (now s) ⌝ }
     ensures { λ r. ⌜ r ≡ judgeLength at n (now (s .entry)) ⌝ }
 {
     if n < LEAST_BODY {
-        return Verdict::Failed;
+        return Standing::Failed;
     }
     if MOST_BODY < n {
-        return Verdict::Failed;
+        return Standing::Failed;
     }
     judge_whole(s, at, n)
 }
 
 // The length's digits from `at` on, and the `|` after them. A fifth digit fails at once, so no more than five are read.
-fn judge_digits(s: &[u8], at: usize) -> Verdict
+fn judge_digits(s: &[u8], at: usize) -> Standing
     requires { ⌜ at ≤ length (now s) ⌝ }
     ensures { λ r. ⌜ r ≡ judgeDigits at (now (s .entry)) ⌝ }
 {
     let d = text::read_digits(&s[at..], MOST_DIGITS + 1);
     let width = d.len;
     if MOST_DIGITS < width {
-        return Verdict::Failed;
+        return Standing::Failed;
     }
     let end = at + width;
     if s.len() <= end {
-        return Verdict::Short;
+        return Standing::Short;
     }
     if width < 1 {
-        return Verdict::Failed;
+        return Standing::Failed;
     }
     if s[end] != BAR {
-        return Verdict::Failed;
+        return Standing::Failed;
     }
     judge_length(s, end + 1, d.value as usize)
 }
 
 // The opening o and the length's tag, as far as bytes have come, and what follows them.
-fn judge(o: &[u8], s: &[u8]) -> Verdict
-    ensures { λ r. ⌜ r ≡ judge (now (o .entry)) (now (s .entry)) ⌝ }
+fn judge_opening(o: &[u8], s: &[u8]) -> Standing
+    ensures { λ r. ⌜ r ≡ judgeOpening (now (o .entry)) (now (s .entry)) ⌝ }
 {
     if !octet::agree(o, s) {
-        return Verdict::Failed;
+        return Standing::Failed;
     }
     let at = o.len();
     if s.len() < at {
-        return Verdict::Short;
+        return Standing::Short;
     }
     if !octet::agree(b"9=", &s[at..]) {
-        return Verdict::Failed;
+        return Standing::Failed;
     }
     if s.len() < at + 2 {
-        return Verdict::Short;
+        return Standing::Short;
     }
     judge_digits(s, at + 2)
 }
@@ -171,10 +170,10 @@ fn judge(o: &[u8], s: &[u8]) -> Verdict
 pub fn find_by(o: &[u8], s: &[u8]) -> Found
     ensures { λ r. ⌜ r ≡ foundBy (now (o .entry)) (now (s .entry)) ⌝ }
 {
-    match judge(o, s) {
-        Verdict::Short => Found::More,
-        Verdict::Failed => Found::Garbled(skip(o, s)),
-        Verdict::Whole(n) => Found::Framed(n),
+    match judge_opening(o, s) {
+        Standing::Short => Found::More,
+        Standing::Failed => Found::Garbled(skip(o, s)),
+        Standing::Whole(n) => Found::Framed(n),
     }
 }
 

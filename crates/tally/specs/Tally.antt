@@ -1,8 +1,6 @@
 -- "The tally of booked, already booked, rejected (a Reject written) and garbled .. brought up to date by each message call".
-use Prim.Native.Nat.{ℕ, _+_}
-use mathlib.Core.Bool.{cond}
-use lib.Dec.{ltb}
-use Rattle.answer.specs.Numbers.{largest}
+use Prim.Native.Nat.{ℕ}
+use Rattle.answer.specs.Numbers.{counted}
 use Rattle.answer.specs.declared.Outcome.{Outcome}
 use Rattle.answer.specs.declared.Outcome.the-variants as outcome
 use Rattle.tally.specs.declared.Tally.{Tally}
@@ -12,7 +10,7 @@ none-yet = record { booked = 0; already = 0; rejected = 0; garbled = 0 }
 
 -- "a count stops at 4,294,967,295"
 unfoldable pub up : ℕ → ℕ
-up n = cond (ltb n largest) (n + 1) n
+up n = counted n 1
 
 abbrev pub oneBooked : Tally → Tally
 oneBooked t = record { booked = up (t .booked); already = t .already; rejected = t .rejected; garbled = t .garbled }

@@ -1,6 +1,6 @@
 // The tally: what the messages of a line came to, in four counts.
-use answer::LARGEST;
 use answer::Outcome;
+use answer::count_on;
 ghost use mathlib.Core.Path.{_≡_};
 ghost use Rattle.tally.specs.Tally.{up, none-yet, oneBooked, oneAlready, oneRejected, oneGarbled, tallied};
 
@@ -15,7 +15,7 @@ pub struct Tally {
 fn up(n: u32) -> u32
     ensures { λ r. ⌜ r ≡ up n ⌝ }
 {
-    if n < LARGEST { n + 1 } else { n }
+    count_on(n, 1)
 }
 
 impl Tally {

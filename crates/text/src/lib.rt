@@ -8,6 +8,7 @@ ghost use Rattle.octet.specs.Splice.{splice, fitsAt};
 ghost use Rattle.text.specs.Decimal.{digitsAtFront, Fits, decimal, fixed, priceText, checkSum};
 ghost use Rattle.text.specs.Fields.{_is_, fieldBytes};
 ghost use Rattle.text.specs.Writing.{room, textWith, empty, puts, held};
+use answer::BAR;
 use octet::copy_into;
 
 // How many digits there are at the front, and the number that they write.
@@ -24,9 +25,6 @@ pub struct Text {
     pub bytes: [u8; ROOM],
     pub len: usize,
 }
-
-// The byte that ends a field, written `|`.
-const MARK: u8 = 1;
 
 // A price is kept in ten-thousandths, and written with four decimals.
 const PARTS: u64 = 10000;
@@ -271,7 +269,7 @@ pub fn field_at(b: &mut [u8; ROOM], at: usize, tag: u32, v: &[u8], n: usize) -> 
     let equals = decimal_at(b, at, tag as u64);
     let value = put_at(b, equals, b'=');
     let mark = part_at(b, value, v, n);
-    put_at(b, mark, MARK)
+    put_at(b, mark, BAR)
 }
 
 // tag=n|
@@ -281,7 +279,7 @@ pub fn number_at(b: &mut [u8; ROOM], at: usize, tag: u32, n: u32) -> usize
     let equals = decimal_at(b, at, tag as u64);
     let value = put_at(b, equals, b'=');
     let mark = decimal_at(b, value, n as u64);
-    put_at(b, mark, MARK)
+    put_at(b, mark, BAR)
 }
 
 // tag=x|
@@ -291,5 +289,5 @@ pub fn letter_at(b: &mut [u8; ROOM], at: usize, tag: u32, x: u8) -> usize
     let equals = decimal_at(b, at, tag as u64);
     let value = put_at(b, equals, b'=');
     let mark = put_at(b, value, x);
-    put_at(b, mark, MARK)
+    put_at(b, mark, BAR)
 }

@@ -1,8 +1,9 @@
 // The messages that we write: what to say is an enum, and one function lays its fields out, whatever the opening.
+use answer::BAR;
 use answer::Fault;
 use answer::Id;
-use answer::LARGEST;
 use answer::Setup;
+use answer::tags;
 use frame::OPENING;
 use octet::copy_into;
 use text::ROOM;
@@ -41,9 +42,6 @@ pub enum Reply {
     One(Say),
     Two(Say, Say),
 }
-
-// `|`
-const MARK: u8 = 1;
 
 // A time has so many bytes; of a word that is repeated, 112 has at most so many, and a type (372) so many.
 const TIME_WIDTH: usize = 21;
@@ -117,12 +115,12 @@ fn with_id(b: &mut [u8; ROOM], at: usize, tag: u32, id: Id) -> usize
 fn lead(b: &mut [u8; ROOM], at: usize, setup: Setup, o: u32, say: Say) -> usize
     ensures { λ r. ⌜ textWith (now (b .exit)) r ≡ puts (textWith (now (b .entry)) at) (layout (leadOf setup o say)) ⌝ }
 {
-    let ours = setup.ours;
-    let theirs = setup.theirs;
-    let number = letter_at(b, at, 35, type_of(say));
-    let sender = number_at(b, number, 34, number_of(o, say));
-    let target = with_id(b, sender, 49, ours);
-    with_id(b, target, 56, theirs)
+    let ours = setup.ours();
+    let theirs = setup.theirs();
+    let number = letter_at(b, at, tags::TYPE, type_of(say));
+    let sender = number_at(b, number, tags::SEQUENCE, number_of(o, say));
+    let target = with_id(b, sender, tags::SENDER, ours);
+    with_id(b, target, tags::TARGET, theirs)
 }
 
 // "43 where said, 52 (the given time), 122 where said".
@@ -130,11 +128,11 @@ fn with_date(b: &mut [u8; ROOM], at: usize, time: &[u8], say: Say) -> usize
     ensures { λ r. ⌜ textWith (now (b .exit)) r ≡ puts (textWith (now (b .entry)) at) (layout (datedOf (now (time .entry)) say)) ⌝ }
 {
     if is_gap_fill(say) {
-        let sent = letter_at(b, at, 43, b'Y');
-        let original = field_at(b, sent, 52, time, TIME_WIDTH);
-        return field_at(b, original, 122, time, TIME_WIDTH);
+        let sent = letter_at(b, at, tags::AGAIN, b'Y');
+        let original = field_at(b, sent, tags::SENT, time, TIME_WIDTH);
+        return field_at(b, original, tags::FIRST_SENT, time, TIME_WIDTH);
     }
-    field_at(b, at, 52, time, TIME_WIDTH)
+    field_at(b, at, tags::SENT, time, TIME_WIDTH)
 }
 
 // "371 where a tag is named".
@@ -142,7 +140,7 @@ fn with_named(b: &mut [u8; ROOM], at: usize, tag: u32) -> usize
     ensures { λ r. ⌜ textWith (now (b .exit)) r ≡ puts (textWith (now (b .entry)) at) (layout (named tag)) ⌝ }
 {
     if tag != 0 {
-        return number_at(b, at, 371, tag);
+        return number_at(b, at, tags::NAMED, tag);
     }
     at
 }
@@ -153,10 +151,10 @@ fn with_fault(b: &mut [u8; ROOM], at: usize, n: u32, fault: Fault, word: &[u8]) 
 {
     let tag = fault.tag;
     let reason = fault.reason;
-    let named = number_at(b, at, 45, n);
+    let named = number_at(b, at, tags::REJECTED, n);
     let typed = with_named(b, named, tag);
-    let end = field_at(b, typed, 372, word, MOST_TYPE);
-    number_at(b, end, 373, reason)
+    let end = field_at(b, typed, tags::REJECTED_TYPE, word, MOST_TYPE);
+    number_at(b, end, tags::REASON, reason)
 }
 
 // The tags after the header, "in the order this paper names them".
@@ -165,21 +163,21 @@ fn with_others(b: &mut [u8; ROOM], at: usize, o: u32, word: &[u8], say: Say) -> 
 {
     match say {
         Say::Logon => {
-            let seconds = number_at(b, at, 98, 0);
-            number_at(b, seconds, 108, 30)
+            let seconds = number_at(b, at, tags::ENCRYPTION, 0);
+            number_at(b, seconds, tags::INTERVAL, 30)
         }
         Say::Heartbeat => at,
-        Say::Echo => field_at(b, at, 112, word, MOST_WORD),
-        Say::Test => number_at(b, at, 112, o),
+        Say::Echo => field_at(b, at, tags::WORD, word, MOST_WORD),
+        Say::Test => number_at(b, at, tags::WORD, o),
         Say::Logout => at,
         Say::Resend(from) => {
-            let end = number_at(b, at, 7, from);
-            number_at(b, end, 16, 0)
+            let end = number_at(b, at, tags::FROM, from);
+            number_at(b, end, tags::UP_TO, 0)
         }
         Say::Reject(n, fault) => with_fault(b, at, n, fault, word),
         Say::GapFill(_, to) => {
-            let next = letter_at(b, at, 123, b'Y');
-            number_at(b, next, 36, to)
+            let next = letter_at(b, at, tags::FILLING, b'Y');
+            number_at(b, next, tags::TO, to)
         }
     }
 }
@@ -197,7 +195,7 @@ fn frame(b: &mut [u8; ROOM], opening: &[u8], body: &[u8]) -> usize
     let total = byte_sum(&head[..end]);
     let digits = part_at(b, end, b"10=", 3);
     let mark = fixed_at(b, digits, 3, total as u64);
-    put_at(b, mark, MARK)
+    put_at(b, mark, BAR)
 }
 
 // Writes a message into reply at a place, and says where it ends; where it does not fit, nothing.
@@ -235,7 +233,7 @@ fn uses(say: Say) -> u32
 fn number_after(o: u32, say: Say) -> u32
     ensures { λ r. ⌜ r ≡ numberAfter o say ⌝ }
 {
-    if o < LARGEST { o + uses(say) } else { o }
+    answer::count_on(o, uses(say))
 }
 
 // Writes the messages of a reply from the buffer's start, and says where they end; nothing into a buffer under 512 bytes.

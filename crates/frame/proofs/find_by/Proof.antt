@@ -7,15 +7,15 @@ use Rattle.frame.proofs.find_by.Tie as tie
 
 returns : tie.Need-returns
 unfolding foundBy
-returns c = simp (sym (c .before .before .judge .ensures) ∙ c .enum-told .given .1)
+returns c = simp (sym (c .before .before .judge-opening .ensures) ∙ c .enum-told .given .1)
 
 returns-2 : tie.Need-returns-2
 unfolding foundBy
-returns-2 c = simp (sym (c .before .before .before .judge .ensures) ∙ c .before .enum-told2 .given .1, c .skip .ensures)
+returns-2 c = simp (sym (c .before .before .before .judge-opening .ensures) ∙ c .before .enum-told2 .given .1, c .skip .ensures)
 
 returns-3 : tie.Need-returns-3
 unfolding foundBy
-returns-3 c = simp (sym (c .before .before .before .judge .ensures) ∙ c .before .n .given .1)
+returns-3 c = simp (sym (c .before .before .before .judge-opening .ensures) ∙ c .before .n .given .1)
 
 pub find-by-spec : {M : Type 1} → statement M
 find-by-spec =

@@ -1,4 +1,4 @@
--- `frame::judge` meets its contract.
+-- `frame::judge_opening` meets its contract.
 use mathlib.Core.Path.{_≡_, sym, _∙_, ap}
 use native.Mathlib.Omega.{arith}
 use mathlib.Core.Bool.{true}
@@ -9,8 +9,8 @@ use Rattle.octet.specs.Bytes.{bytesOf, agree}
 use Rattle.octet.proofs.Lists.{part-rest}
 use Rattle.frame.proofs.Steps.{judge-two, digits-past}
 use borrow.Author.Needs.{needs}
-use Rattle.frame.proofs.judge.Statement.{statement}
-use Rattle.frame.proofs.judge.Tie as tie
+use Rattle.frame.proofs.judge_opening.Statement.{statement}
+use Rattle.frame.proofs.judge_opening.Tie as tie
 
 opened : (c : tie.Else1) → let a = c .before .before .before .before .args in agree (a .o .now) (a .s .now) ≡ true
 opened c = sym (c .before .agree .ensures) ∙ not-false _ (c .if1 .left)
@@ -49,8 +49,8 @@ returns-5 c =
     (judge-two, opened (e .before .before .before .before .before), sym (tag (e .before)) ∙ not-false _ (e .if3 .left))
     (c .judge-digits .ensures)
 
-pub judge-spec : {M : Type 1} → statement M
-judge-spec =
+pub judge-opening-spec : {M : Type 1} → statement M
+judge-opening-spec =
     tie.close
     (tie.spec
     (λ c κs. search needs)
