@@ -18,20 +18,13 @@ use session::Session;
 use session::Verdict;
 use tally::Tally;
 ghost use mathlib.Core.Path.{_≡_};
-ghost use lib.ListN.{length};
-ghost use Rattle.octet.specs.Splice.{splice};
 ghost use Rattle.field.specs.Pieces.{piecesOf};
 ghost use Rattle.session.specs.Judging.{judge};
 ghost use Rattle.book.specs.Memory.{slotsIn};
 ghost use Rattle.book.specs.Admitting.{admitOf};
 ghost use Rattle.frame.specs.Finding.{foundIn};
-ghost use Rattle.note.specs.Notes.{written};
 ghost use Rattle.restart.specs.Restart.{restart, told, bookAfter};
-ghost use Rattle.listing.specs.Listing.{listing, bookListed};
-ghost use Rattle.receiver.specs.State.{seen};
-ghost use Rattle.receiver.specs.Receiver.{does, Message};
-ghost use Rattle.receiver.specs.Steps.{lentTo};
-ghost use Rattle.bench.specs.Timed.{agreed, online, outcomeNumber, answerNumber, wordOf, Timed, wholeOf, lengthOf, Indexed, verdictNumber, admittedNumber};
+ghost use Rattle.bench.specs.Timed.{agreed, online, outcomeNumber, answerNumber, wordOf, TimedMessage, TimedListing, wholeOf, lengthOf, Indexed, verdictNumber, admittedNumber};
 
 fn outcome_number(outcome: Outcome) -> u8
     ensures { λ r. ⌜ r ≡ outcomeNumber outcome ⌝ }
@@ -133,7 +126,10 @@ pub extern "C" fn bench_message(
     reply: &mut [u8],
     note: &mut [u8],
 ) -> u64
-    ensures { λ r. ⌜ Timed (does (agreed (now (ours .entry)) n (now (theirs .entry)) k) (seen (online e fills orders) (now (book .entry))) (lentTo (length (now (reply .entry))) (length (now (note .entry)))) (Message (now (time .entry)) (now (bytes .entry)))) r (now (book .entry)) (now (book .exit)) (now (reply .entry)) (now (reply .exit)) (now (note .entry)) (now (note .exit)) ⌝ }
+    ensures { λ r. ⌜
+        TimedMessage (agreed (now (ours .entry)) n (now (theirs .entry)) k) (online e fills orders) (now (time .entry)) (now (bytes .entry)) r
+        (now (book .entry)) (now (book .exit)) (now (reply .entry)) (now (reply .exit)) (now (note .entry)) (now (note .exit))
+        ⌝ }
 {
     let received = receiver::message(
         agreed(*ours, n, *theirs, k),
@@ -162,7 +158,7 @@ pub extern "C" fn bench_restart(book: &mut [u8; BOOK], notes: &[u8]) -> usize
 // The listing.
 #[no_mangle]
 pub extern "C" fn bench_listing(notes: &[u8], book: &mut [u8; BOOK], out: &mut [u8]) -> usize
-    ensures { λ r. ⌜ (r ≡ written (now (out .entry)) (listing (now (notes .entry)))) × (now (out .exit) ≡ splice (now (out .entry)) 0 (listing (now (notes .entry)))) × (now (book .exit) ≡ bookListed (now (book .entry)) (now (notes .entry))) ⌝ }
+    ensures { λ r. ⌜ TimedListing (now (notes .entry)) r (now (book .entry)) (now (book .exit)) (now (out .entry)) (now (out .exit)) ⌝ }
 {
     listing::write_listing(notes, book, out)
 }

@@ -4,10 +4,7 @@ use fill::BOOK;
 use receiver::State;
 use receiver::Told;
 use tally::Tally;
-ghost use lib.ListN.{length};
-ghost use Rattle.receiver.specs.State.{seen};
-ghost use Rattle.receiver.specs.Receiver.{call, Message};
-ghost use Rattle.receiver.specs.Steps.{lentTo, Taken};
+ghost use Rattle.receiver.specs.Steps.{Messaged};
 
 pub fn message(
     setup: Setup,
@@ -19,7 +16,10 @@ pub fn message(
     reply: &mut [u8],
     note: &mut [u8],
 ) -> Told
-    ensures { λ r. ⌜ Taken (call setup (seen st (now (book .entry))) (lentTo (length (now (reply .entry))) (length (now (note .entry)))) (now (tally .entry)) (Message (now (time .entry)) (now (bytes .entry)))) (record { told = r; tally = now (tally .exit) }) (now (book .entry)) (now (book .exit)) (now (reply .entry)) (now (reply .exit)) (now (note .entry)) (now (note .exit)) ⌝ }
+    ensures { λ r. ⌜
+        Messaged setup st (now (tally .entry)) (now (time .entry)) (now (bytes .entry)) (record { told = r; tally = now (tally .exit) })
+        (now (book .entry)) (now (book .exit)) (now (reply .entry)) (now (reply .exit)) (now (note .entry)) (now (note .exit))
+        ⌝ }
 {
     let received = receiver::message(setup, st, *tally, time, bytes, book, reply, note);
     *tally = received.tally;
