@@ -22,7 +22,7 @@ use Rattle.wire.specs.declared.Say.{Say}
 use Rattle.wire.specs.declared.Say.the-variants.{Logon, Heartbeat, Echo, Test, Logout, Resend, Reject, GapFill}
 use Rattle.wire.specs.declared.Reply.{Reply}
 use Rattle.wire.specs.declared.Reply.the-variants.{Nothing, One, Two}
-use Rattle.wire.specs.Messages.{headed, framed, typeOf, isGapFill, numberOf, othersOf, headerOf, fieldsOf, messageOf, numberAfter, replyOf}
+use Rattle.wire.specs.Messages.{headed, framed, typeOf, isGapFill, sequenceOf, othersOf, headerOf, fieldsOf, messageOf, numberAfter, replyOf}
 use Rattle.wire.specs.Sending.{Small}
 
 -- ---- a field with a tag of at most 3 digits
@@ -90,7 +90,7 @@ others-short (GapFill from to) o word s h =
     let b = number-short 36 to (omega arith) (s .1) in
     simp length-append (omega arith)
 
-number-small : (say : Say) (o : ℕ) → Small say → o < 2 ^ 32 → numberOf o say < 2 ^ 32
+number-small : (say : Say) (o : ℕ) → Small say → o < 2 ^ 32 → sequenceOf o say < 2 ^ 32
 number-small Logon o s h = h
 number-small Heartbeat o s h = h
 number-small Echo o s h = h
@@ -118,7 +118,7 @@ module _ (setup : Setup) (p : length (ours setup) ≤ 16) (q : length (theirs se
       let t = type-short say in
       let again = isGapFill say in
       let a = field-short 35 (typeOf say) (omega arith) in
-      let b = number-short 34 (numberOf o say) (omega arith) (number-small say o s h) in
+      let b = number-short 34 (sequenceOf o say) (omega arith) (number-small say o s h) in
       let d = field-short 49 (ours setup) (omega arith) in
       let e = field-short 56 (theirs setup) (omega arith) in
       let f = said-short again (43 is bytesOf "Y") 6 (field-short 43 (bytesOf "Y") (omega arith)) in

@@ -28,7 +28,7 @@ use Rattle.answer.specs.declared.Setup.{Setup}
 use Rattle.wire.specs.declared.Say.{Say}
 use Rattle.wire.specs.declared.Say.the-variants.{Logon, Heartbeat, Echo, Test, Logout, Resend, Reject, GapFill}
 use Rattle.wire.specs.declared.Reply.the-variants.{Two}
-use Rattle.wire.specs.Messages.{typeOf, isGapFill, numberOf, othersOf, headerOf, fieldsOf, messageOf, numberAfter, replyOf}
+use Rattle.wire.specs.Messages.{typeOf, isGapFill, sequenceOf, othersOf, headerOf, fieldsOf, messageOf, numberAfter, replyOf}
 use Rattle.wire.specs.Reading.{Clear, ClearWord, Given, ReadsBack, HeaderRead}
 use Rattle.wire.proofs.Bounds.{body-short}
 use Rattle.wire.proofs.Framing.{framed-found, framed-body}
@@ -96,7 +96,7 @@ module _ (setup : Setup) (o : ℕ) (time word : List ℕ) (say : Say) (g : Given
       each-append
       (each-append
       (also (whole 35 (typeOf say) (omega arith) (omega arith) (type-clear say .1))
-      (also (number-whole 34 (numberOf o say) (omega arith) (omega arith))
+      (also (number-whole 34 (sequenceOf o say) (omega arith) (omega arith))
       (also (whole 49 _ (omega arith) (omega arith) (g .sender)) (also (whole 56 _ (omega arith) (omega arith) (g .target)) none))))
       (dated-whole (isGapFill say) (take 21 time) t))
       (others-whole say o word (g .repeated))

@@ -54,8 +54,8 @@ abbrev pub isGapFill : Say → Bool
 isGapFill say = not (isNone (filledFrom say))
 
 -- "34 is O unless said"
-abbrev pub numberOf : ℕ → Say → ℕ
-numberOf o say = unless o (filledFrom say)
+abbrev pub sequenceOf : ℕ → Say → ℕ
+sequenceOf o say = unless o (filledFrom say)
 
 -- "It uses no O; every other message we write uses one"
 abbrev pub uses : Say → ℕ
@@ -83,7 +83,7 @@ othersOf o word (GapFill from to) = (123 is bytesOf "Y") ∷ (36 is decimal to) 
 
 -- "35, 34, 49 (ours), 56"
 abbrev pub leadOf : Setup → ℕ → Say → List Field
-leadOf setup o say = (35 is typeOf say) ∷ (34 is decimal (numberOf o say)) ∷ (49 is ours setup) ∷ (56 is theirs setup) ∷ []
+leadOf setup o say = (35 is typeOf say) ∷ (34 is decimal (sequenceOf o say)) ∷ (49 is ours setup) ∷ (56 is theirs setup) ∷ []
 
 -- "43 where said, 52 (the given time), 122 where said"; the gap fill "has 43=Y, 122 equal to 52"
 abbrev pub datedOf : List ℕ → Say → List Field

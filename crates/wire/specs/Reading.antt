@@ -18,7 +18,7 @@ use Rattle.answer.specs.Setup.{ours, theirs}
 use Rattle.answer.specs.declared.Setup.{Setup}
 use Rattle.wire.specs.declared.Say.{Say}
 use Rattle.wire.specs.declared.Say.the-variants.{Logon, Heartbeat, Echo, Test, Logout, Resend, Reject, GapFill}
-use Rattle.wire.specs.Messages.{typeOf, numberOf}
+use Rattle.wire.specs.Messages.{typeOf, sequenceOf}
 use Rattle.wire.specs.Sending.{Small}
 
 -- ---- what is asked
@@ -66,7 +66,7 @@ pub record ReadsBack (m : List ℕ) (fields : List Field) : Type 0 where
 
 pub record HeaderRead (setup : Setup) (o : ℕ) (time : List ℕ) (say : Say) (ps : Pieces) : Type 0 where
   pub type : firstOf 35 ps ≡ some (typeOf say)
-  pub number : firstOf 34 ps ≡ some (decimal (numberOf o say))
+  pub number : firstOf 34 ps ≡ some (decimal (sequenceOf o say))
   pub sender : firstOf 49 ps ≡ some (ours setup)
   pub target : firstOf 56 ps ≡ some (theirs setup)
   pub stamp : firstOf 52 ps ≡ some time

@@ -21,7 +21,7 @@ ghost use lib.ListN.{length};
 ghost use Rattle.answer.specs.Setup.{idOf};
 ghost use Rattle.text.specs.Fields.{_is_, fieldBytes, layout};
 ghost use Rattle.text.specs.Writing.{textWith, puts};
-ghost use Rattle.wire.specs.Messages.{framed, typeOf, isGapFill, numberOf, uses, named, rejectOf, leadOf, datedOf, othersOf, messageOf, numberAfter, replyOf, usedBy};
+ghost use Rattle.wire.specs.Messages.{framed, typeOf, isGapFill, sequenceOf, uses, named, rejectOf, leadOf, datedOf, othersOf, messageOf, numberAfter, replyOf, usedBy};
 ghost use Rattle.wire.specs.Sending.{SmallFault, Small, Sent, Replied};
 
 // What to write. Echo is the Heartbeat that answers a Test Request.
@@ -69,8 +69,8 @@ fn type_of(say: Say) -> u8
 }
 
 // "34 is O unless said"; "The gap fill is numbered by tag 7".
-fn number_of(o: u32, say: Say) -> u32
-    ensures { λ r. ⌜ r ≡ numberOf o say ⌝ }
+fn sequence_of(o: u32, say: Say) -> u32
+    ensures { λ r. ⌜ r ≡ sequenceOf o say ⌝ }
 {
     match say {
         Say::Logon => o,
@@ -118,7 +118,7 @@ fn lead(b: &mut [u8; ROOM], at: usize, setup: Setup, o: u32, say: Say) -> usize
     let ours = setup.ours();
     let theirs = setup.theirs();
     let number = letter_at(b, at, tags::TYPE, type_of(say));
-    let sender = number_at(b, number, tags::SEQUENCE, number_of(o, say));
+    let sender = number_at(b, number, tags::SEQUENCE, sequence_of(o, say));
     let target = with_id(b, sender, tags::SENDER, ours);
     with_id(b, target, tags::TARGET, theirs)
 }

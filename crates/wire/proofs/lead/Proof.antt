@@ -9,7 +9,7 @@ use Rattle.text.specs.declared.Text.{Text}
 use Rattle.text.proofs.Puts.{puts-puts}
 use Rattle.answer.specs.Setup.{idOf, ours, theirs}
 use Rattle.answer.specs.declared.Id.{Id}
-use Rattle.wire.specs.Messages.{typeOf, numberOf}
+use Rattle.wire.specs.Messages.{typeOf, sequenceOf}
 use borrow.Author.Needs.{needs}
 use Rattle.wire.proofs.lead.Statement.{statement}
 use Rattle.wire.proofs.lead.Tie as tie
@@ -31,11 +31,11 @@ returns c =
     laid t u v w
     (textWith (c .with-id2 .last .0) (c .with-id2 .result))
     (35 is typeOf (a .say))
-    (34 is decimal (numberOf (a .o) (a .say)))
+    (34 is decimal (sequenceOf (a .o) (a .say)))
     (49 is ours (a .setup))
     (56 is theirs (a .setup))
     (l .letter-at .ensures ∙ ap (λ (v : List ℕ). puts t (fieldBytes (35 is v))) (sym (l .before .type-of .ensures)))
-    (n .number-at .ensures ∙ ap (λ (k : ℕ). puts u (fieldBytes (34 is decimal k))) (n .before .number-of .ensures))
+    (n .number-at .ensures ∙ ap (λ (k : ℕ). puts u (fieldBytes (34 is decimal k))) (n .before .sequence-of .ensures))
     (c .before .before .with-id .ensures ∙ ap (λ (id : Id). puts v (fieldBytes (49 is idOf id))) (s .before .ours .ensures))
     (c .with-id2 .ensures ∙ ap (λ (id : Id). puts w (fieldBytes (56 is idOf id))) (s .theirs .ensures))
 

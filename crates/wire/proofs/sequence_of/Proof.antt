@@ -1,14 +1,14 @@
--- `wire::number_of` meets its contract.
+-- `wire::sequence_of` meets its contract.
 use borrow.Author.Needs.{needs}
-use Rattle.wire.proofs.number_of.Statement.{statement}
-use Rattle.wire.proofs.number_of.Tie as tie
+use Rattle.wire.proofs.sequence_of.Statement.{statement}
+use Rattle.wire.proofs.sequence_of.Tie as tie
 
 -- the gap fill
 returns-8 : tie.Need-returns-8
 returns-8 c = rw (c .before .say .given .1)
 
-pub number-of-spec : {M : Type 1} → statement M
-number-of-spec =
+pub sequence-of-spec : {M : Type 1} → statement M
+sequence-of-spec =
     tie.close
     (tie.spec
     (λ c. search needs)
