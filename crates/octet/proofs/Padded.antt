@@ -208,3 +208,12 @@ zeros-turn d at i h =
     ∙ ap (λ (k : ℕ). splice (splice d at (replicate i 0)) (at + k) (0 ∷ [])) (sym l)
     ∙ splice-join d at (replicate i 0) (0 ∷ []) (omega (arith, l))
     ∙ ap (splice d at) (replicate-append-replicate i 1 0)
+
+-- zeros that do not fit, and zeros that do
+pub zeros-no-room : (d : List ℕ) (at n : ℕ) → length d < at + n → (false ≡ fitsAt d at (replicate n 0)) × (d ≡ splice d at (replicate n 0))
+zeros-no-room d at n h =
+    let l : length d < at + length (replicate {A = ℕ} n 0) = omega (arith, zeros-length n) in
+    (sym (fits-false d at (replicate n 0) l), sym (splice-out d at (replicate n 0) l))
+
+pub zeros-room : (d : List ℕ) (at n : ℕ) → at + n ≤ length d → true ≡ fitsAt d at (replicate n 0)
+zeros-room d at n h = sym (fits-true d at (replicate n 0) (omega (arith, zeros-length n)))

@@ -4,7 +4,7 @@ use Prim.Native.Nat.{ℕ}
 use mathlib.Core.Path.{_≡_, sym, _∙_}
 use mathlib.Core.List.{List}
 use mathlib.Core.Bool.{Bool, cond, _&&_}
-use lib.ListN.{getD}
+use lib.ListN.{getD, replicate}
 use Rattle.octet.specs.Bytes.{same, agree, part, untilByte, runIn, allIn}
 use Rattle.octet.specs.Places.{wordAt, high, bigEndian}
 use Rattle.octet.specs.Splice.{splice, fitsAt}
@@ -63,7 +63,7 @@ module _ (s : List ℕ) where
 
 -- what is lent is d, and d′ and d″ are what stands there after
 module _ (d : List ℕ) (at : ℕ) {r r′ : Bool} {d′ d″ : List ℕ} where
-  -- copy_into, and with s = high 4 n and s = high 8 n put_four and put_eight
+  -- copy_into, and with s = high 4 n, high 8 n and zeros put_four, put_eight and put_zeros
   pub copy-into-one : (s : List ℕ) → Writes (fitsAt d at s) (splice d at s) r d′ → Writes (fitsAt d at s) (splice d at s) r′ d″ → (r ≡ r′) × (d′ ≡ d″)
   copy-into-one s p q = one-writing p q
 
@@ -72,6 +72,12 @@ module _ (d : List ℕ) (at : ℕ) {r r′ : Bool} {d′ d″ : List ℕ} where
 
   pub put-eight-one : (n : ℕ) → Writes (fitsAt d at (high 8 n)) (splice d at (high 8 n)) r d′ → Writes (fitsAt d at (high 8 n)) (splice d at (high 8 n)) r′ d″ → (r ≡ r′) × (d′ ≡ d″)
   put-eight-one n p q = copy-into-one (high 8 n) p q
+
+  pub put-zeros-one : (n : ℕ)
+      → Writes (fitsAt d at (replicate n 0)) (splice d at (replicate n 0)) r d′
+      → Writes (fitsAt d at (replicate n 0)) (splice d at (replicate n 0)) r′ d″
+      → (r ≡ r′) × (d′ ≡ d″)
+  put-zeros-one n p q = copy-into-one (replicate n 0) p q
 
   pub put-padded-one : (width : ℕ) (t : List ℕ)
       → Writes (fitsWidth width t && fitsAt d at (padded width t)) (cond (fitsWidth width t) (splice d at (padded width t)) d) r d′

@@ -222,16 +222,22 @@ pub fn put_eight(dst: &mut [u8], at: usize, n: u64) -> bool
     put_number(dst, at, 8, n)
 }
 
-// Writes n zeros over dst from place `at` on.
-fn put_zeros(dst: &mut [u8], at: usize, n: usize)
-    requires { ⌜ at + n ≤ length (now dst) ⌝ }
-    ensures { λ r. ⌜ now (dst .exit) ≡ splice (now (dst .entry)) at (replicate n 0) ⌝ }
+// Writes n zeros over dst from place `at` on. Where they do not fit nothing changes, and the answer is false.
+pub fn put_zeros(dst: &mut [u8], at: usize, n: usize) -> bool
+    ensures { λ r. ⌜ (r ≡ fitsAt (now (dst .entry)) at (replicate n 0)) × (now (dst .exit) ≡ splice (now (dst .entry)) at (replicate n 0)) ⌝ }
 {
+    if dst.len() < at {
+        return false;
+    }
+    if dst.len() - at < n {
+        return false;
+    }
     let mut i = 0;
     while i < n {
         dst[at + i] = 0;
         i += 1;
     }
+    true
 }
 
 // Writes the text t over dst from place `at` on, as a field of that width: a length byte, the text, zero padding. Where

@@ -2,6 +2,7 @@
 --     time-good, time-bad, time-out     what each answer means
 --     time-is     what it means to be a time
 --     time-read     a time is read
+--     time-yes, time-form, time-range     each answer, as a test
 --     time-filled, time-full     a time of 17 bytes with .000 after it is a time, of 21 bytes
 use mathlib.Core.Path.{_≡_, refl, sym, ap, _∙_}
 use mathlib.Core.Logic.{_⊎_, ⊎-elim, inl, inr}
@@ -15,11 +16,12 @@ use lib.Dec.{eqb}
 use borrow.Author.Tests.{eqb-true, eq-eqb}
 use Rattle.octet.specs.Bytes.{bytesOf, allIn, part}
 use Rattle.octet.specs.Maybe.{isNone}
-use Rattle.octet.proofs.Cases.{of-cond, contrary, cond-true, and-both, and-make, or-cases}
+use Rattle.octet.proofs.Cases.{not-true-false, of-cond, contrary, cond-true, and-both, and-make, or-cases}
 use Rattle.octet.proofs.Lists.{part-first, drop-step}
 use Rattle.text.specs.Decimal.{digits}
 use Rattle.value.specs.Value.{wellFormed, likeRun, timePattern, timeLong, badTime, isDay, isClock, numberOn, timeFits, isTime}
 use Rattle.value.specs.Readers.{checked, timeChecked}
+use Rattle.value.specs.declared.Check.{Check}
 use Rattle.value.specs.declared.Check.the-variants.{Good, BadForm, OutOfRange}
 use Rattle.value.proofs.Forms.{form-short, form-part, form-well, form-good, checked-good, checked-bad, checked-out}
 use Rattle.value.proofs.Like.{like-append}
@@ -142,3 +144,14 @@ time-full t e =
     of-cond (λ (s : List ℕ). (isTime s ≡ true) × (length s ≡ 21)) (eqb (length t) 17)
     (λ h. (let l = eqb-true (length t) 17 h in (time-filled t e l, length-append t (bytesOf ".000") ∙ ap (λ (k : ℕ). k + 4) l)))
     (λ h. (e, ⊎-elim (λ (l : length t ≡ 17). contrary (eq-eqb (length t) 17 l) h) (λ l. l) (time-is t e .lengths)))
+
+-- ---- what the reader answers, as a test
+module _ (v : List ℕ) (k : Check) (e : k ≡ timeChecked v) where
+  pub time-yes : k ≡ Good → true ≡ isTime v
+  time-yes g = let h : timeChecked v ≡ Good = cc in sym (time-good v h .time)
+
+  pub time-form : (at : ℕ) → k ≡ BadForm at → false ≡ isTime v
+  time-form at g = sym (not-true-false (isTime v) (λ h. let r = time-read v h in let z : _≡_ {A = ℕ} 0 1 = cc in omega arith))
+
+  pub time-range : k ≡ OutOfRange → false ≡ isTime v
+  time-range g = sym (not-true-false (isTime v) (λ h. let r = time-read v h in let z : _≡_ {A = ℕ} 0 1 = cc in omega arith))

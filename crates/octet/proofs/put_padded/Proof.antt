@@ -31,13 +31,6 @@ returns-4 c =
     let a = c .before .before .before .before .before .before .args in
     put-no-room (now (a .dst)) (a .at) (a .width) (now (a .t)) (fits-width (a .width) (now (a .t)) (search needs) (search needs)) (omega arith)
 
-put-zeros-requires : tie.Need-put-zeros-requires
-put-zeros-requires c κs =
-    let k = c .before .before .before in
-    let a = k .before .before .before .before .before .before .before .before .args in
-    let l : length (k .copy-into .last .0) ≡ length (now (a .dst)) = k .copy-into .kept .0 ∙ length-set (now (a .dst)) (a .at) (length (now (a .t))) in
-    omega (arith, l)
-
 same-length : tie.Need-same-length
 same-length c =
     let k = c .before .before .before .before .before .before in
@@ -53,7 +46,7 @@ returns-5 c =
     let t = now (a .t) in
     let w = put-whole d (a .at) (a .width) t (fits-width (a .width) t (omega arith) (omega arith)) (omega arith) in (
       w .0,
-      z .put-zeros .ensures
+      z .put-zeros .ensures .1
           ∙ ap (λ (m : List ℕ). splice m (a .at + 1 + length t) (replicate (a .width - 1 - length t) 0)) (k .copy-into .ensures .1) ∙ w .1,
     )
 
@@ -73,6 +66,6 @@ put-padded-spec =
     (λ c. search needs)
     (λ c. search needs)
     (λ c. search needs)
-    put-zeros-requires
+    (λ c κs. search needs)
     same-length
     returns-5)

@@ -1,8 +1,9 @@
+-- `value::is_time` meets its contract, answer by answer.
 use denote.Ref.{now}
-use Rattle.fill.proofs.Lawful.{time-yes, time-form, time-range}
+use Rattle.value.proofs.Times.{time-yes, time-form, time-range}
 use borrow.Author.Needs.{needs}
-use Rattle.fill.proofs.is_time.Statement.{statement}
-use Rattle.fill.proofs.is_time.Tie as tie
+use Rattle.value.proofs.is_time.Statement.{statement}
+use Rattle.value.proofs.is_time.Tie as tie
 
 returns : tie.Need-returns
 returns c =
