@@ -1,5 +1,5 @@
 -- A slot that is made of a fill: how long it is, what each of its parts is, that it reads back field by field, and that it is lawful.
---     slot-size, fills-size, book-size     the paper's numbers
+--     slot-size     the paper's number
 --     slot-length     a slot has slotWidth bytes, whatever the fill
 --     field-is     part i of the slot is part i of the layout: one law for all of them
 --     exec-back, order-back, .. time-back     what is written reads back
@@ -15,52 +15,47 @@ use lib.ListN.{length, getD, take, drop, set, replicate, replicate-append-replic
 use lib.Seq.{take-all, take-at, length-take-le}
 use lib.Dec.{eqb}
 use borrow.Author.Tests.{eq-eqb, ne-eqb, eqb-true, le-leb}
-use Rattle.octet.specs.Bytes.{bytesOf, between, allIn, part, joined, sumOf}
+use Rattle.octet.specs.Bytes.{bytesOf, between, allIn, part, sumOf}
 use Rattle.octet.specs.Places.{HighFirst, numberBytes, numberIn, high, bigEndian}
 use Rattle.octet.specs.Splice.{splice}
 use Rattle.octet.specs.Padded.{fitsWidth, padded, textOf}
 use Rattle.octet.proofs.Cases.{le-or-lt, of-cond, cond-true}
-use Rattle.octet.proofs.Lists.{between-high, drop-step, drop-done, part-past, splice-in, splice-then, splice-whole, set-splice}
+use Rattle.octet.proofs.Lists.{between-high, drop-step, drop-done, part-past, part-second, splice-in, splice-then, splice-whole, set-splice}
 use Rattle.octet.proofs.Places.{number-length, number-back}
 use Rattle.octet.proofs.Padded.{fits-width, padded-length, padded-back, padded-ok}
 use Rattle.value.specs.Value.{isTime}
 use Rattle.value.proofs.Times.{time-is, time-filled}
-use Rattle.fill.specs.Slot.{Fill, widths, widthOf, placeOf, bodyWidth, slotWidth, mostFills, bookWidth, textField, fullTime, timeField, partsOf, bodyOf, slotOf, fillMark, field, execOf, orderOf, symbolOf, sideOf, quantityOf, sharesOf, priceOf, cumOf, timeOf, textLawful, slotLawful}
-use Rattle.fill.proofs.Parts.{lengthsOf, joined-length, part-laid, written, written-joined}
+use Rattle.parts.specs.Parts.{Part, Text, Number, Raw, Value, textField, laid}
+use Rattle.parts.specs.Relaid.{filled}
+use Rattle.parts.proofs.Relaying.{filled-same}
+use Rattle.parts.proofs.ReadBack.{AllSized, each, laid-length, laid-part, written, written-laid}
+use Rattle.fill.specs.Slot.{Fill, slotParts, valuesOf, widths, widthOf, placeOf, bodyWidth, slotWidth, fullTime, bodyOf, slotOf, fillMark, field, execOf, orderOf, symbolOf, sideOf, quantityOf, sharesOf, priceOf, cumOf, timeOf, textLawful, mostPrice, slotLawful}
+use Rattle.answer.specs.Numbers.{mostContracts}
 
 pub slot-size : slotWidth ≡ 94
 slot-size = refl
-
-pub fills-size : mostFills ≡ 512
-fills-size = refl
-
-pub book-size : bookWidth ≡ 48128
-book-size = refl
 
 -- ---- lengths, whatever the fill
 cut-fits : (width : ℕ) (t : List ℕ) → 1 ≤ width → width ≤ 256 → length (take (width - 1) t) ≤ width - 1
 cut-fits width t h l = rw length-take (omega arith)
 
-pub text-length : (width : ℕ) (t : List ℕ) → 1 ≤ width → width ≤ 256 → length (textField width t) ≡ width
-text-length width t h l =
-    let e = cut-fits width t h l in
-    padded-length width (take (width - 1) t) (fits-width width (take (width - 1) t) (omega arith) (omega arith))
+sized : AllSized slotParts
+sized = (omega arith, (omega arith, (omega arith, (tt, (tt, (tt, (tt, (tt, (tt, tt)))))))))
 
-pub time-length : (width : ℕ) (t : List ℕ) → length (timeField width t) ≡ width
-time-length width t = length-take-le width _ (simp (length-append, length-replicate) (omega arith))
-
-pub parts-lengths : (f : Fill) → lengthsOf (partsOf f) ≡ widths
-parts-lengths f =
-    simp (text-length (widthOf 0) (f .exec) (omega arith) (omega arith), text-length (widthOf 1) (f .order) (omega arith) (omega arith), text-length (widthOf 2) (f .symbol) (omega arith) (omega arith), number-length, time-length (widthOf 8) (f .time))
+body-length : (f : Fill) → length (bodyOf f) ≡ bodyWidth
+unfolding bodyOf
+body-length f = laid-length slotParts (valuesOf f) sized
 
 pub slot-length : (f : Fill) → length (slotOf (bodyOf f)) ≡ slotWidth
-unfolding bodyOf
-slot-length f = ap suc (joined-length (partsOf f) ∙ ap sumOf (parts-lengths f))
+slot-length f = ap suc (body-length f)
 
 -- ---- the parts of a slot that is made of a fill
+abbrev partsOf : Fill → List (List ℕ)
+partsOf f = each slotParts (valuesOf f)
+
 pub field-is : (f : Fill) (i : ℕ) → field i (slotOf (bodyOf f)) ≡ getD (partsOf f) i []
 unfolding bodyOf
-field-is f i = part-laid widths (partsOf f) (parts-lengths f) i 1
+field-is f i = part-second (sumOf (take i widths)) (widthOf i) (fillMark ∷ []) (bodyOf f) ∙ laid-part slotParts (valuesOf f) i sized
 
 -- a text that fits, a number that fits and a time are read back from their fields
 pub text-whole : (width : ℕ) (t : List ℕ) → length t < width → textField width t ≡ padded width t
@@ -76,8 +71,8 @@ pub full-length : (t : List ℕ) → (length t ≡ 17) ⊎ (length t ≡ 21) →
 full-length t (inl h) = rw (eq-eqb (length t) 17 h) (length-append t (bytesOf ".000") ∙ omega arith)
 full-length t (inr h) = rw (ne-eqb (length t) 17 (λ e. omega arith)) h
 
-pub time-whole : (t : List ℕ) → (length t ≡ 17) ⊎ (length t ≡ 21) → timeField 21 t ≡ fullTime t
-time-whole t h = take-at (fullTime t) (replicate 21 0) 21 (full-length t h)
+pub time-whole : (t : List ℕ) → (length t ≡ 17) ⊎ (length t ≡ 21) → filled 21 (fullTime t) ≡ fullTime t
+time-whole t h = filled-same 21 (fullTime t) (full-length t h)
 
 module _ (f : Fill) where
   abbrev made : List ℕ
@@ -125,13 +120,13 @@ byte-number at s =
     (le-or-lt (length s) at)
 
 -- the parts of a fill, written one after another into lent bytes that begin with the mark
-pub made-slot : (f : Fill) (rest : List ℕ) → length rest ≡ bodyWidth → written (fillMark ∷ rest) 1 widths (partsOf f) ≡ slotOf (bodyOf f)
+pub made-slot : (f : Fill) (rest : List ℕ) → length rest ≡ bodyWidth → written (fillMark ∷ rest) 1 slotParts (valuesOf f) ≡ slotOf (bodyOf f)
 unfolding bodyOf
 made-slot f rest h =
     let m = fillMark ∷ rest in
-    let b = joined (partsOf f) in
-    let n : length b ≡ bodyWidth = joined-length (partsOf f) ∙ ap sumOf (parts-lengths f) in
-    written-joined m 1 widths (partsOf f) (parts-lengths f) (omega arith)
+    let b = laid slotParts (valuesOf f) in
+    let n : length b ≡ bodyWidth = body-length f in
+    written-laid m 1 slotParts (valuesOf f) sized (omega arith)
     ∙ splice-in m 1 b (omega arith)
     ∙ ap (λ (l : List ℕ). (fillMark ∷ b) ++ l) (drop-done m (1 + length b) (omega arith))
     ∙ append-nil (fillMark ∷ b)
@@ -142,7 +137,7 @@ pub slot-made : (f : Fill) (rest a b d e g h i j k : List ℕ) → length rest �
     → d ≡ splice b (placeOf 2) (textField (widthOf 2) (f .symbol)) → e ≡ set d (placeOf 3) (f .side)
     → g ≡ splice e (placeOf 4) (high (widthOf 4) (f .quantity)) → h ≡ splice g (placeOf 5) (high (widthOf 5) (f .shares))
     → i ≡ splice h (placeOf 6) (high (widthOf 6) (f .price)) → j ≡ splice i (placeOf 7) (high (widthOf 7) (f .cum))
-    → k ≡ splice j (placeOf 8) (timeField (widthOf 8) (f .time)) → k ≡ slotOf (bodyOf f)
+    → k ≡ splice j (placeOf 8) (filled (widthOf 8) (fullTime (f .time))) → k ≡ slotOf (bodyOf f)
 slot-made f rest a b d e g h i j k n s ea eb ed ee eg eh ei ej ek =
     let es : set d (placeOf 3) (f .side) ≡ splice d (placeOf 3) (high (widthOf 3) (f .side)) = set-splice d (placeOf 3) (f .side) ∙ ap (splice d (placeOf 3)) (sym (one-byte (f .side) s)) in
     cc (made-slot f rest n)
@@ -167,14 +162,14 @@ zeros-after (suc n) k (b ∷ t) =
     let e : n + suc k ≡ suc n + k = omega arith in
     ap (λ (l : List ℕ). b ∷ l) (zeros-after n (suc k) t ∙ ap (λ (m : ℕ). take n (t ++ replicate m 0)) e)
 
-pub time-other : (t : List ℕ) → (length t ≡ 17 → ⊥) → splice (replicate 21 0) 0 (take 21 t) ≡ timeField 21 t
+pub time-other : (t : List ℕ) → (length t ≡ 17 → ⊥) → splice (replicate 21 0) 0 (take 21 t) ≡ filled 21 (fullTime t)
 time-other t h =
     rw (ne-eqb (length t) 17 h)
     (splice-in (replicate 21 0) 0 (take 21 t) (rw length-take (omega arith))
     ∙ ap (λ (n : ℕ). take 21 t ++ drop n (replicate 21 0)) (zero-add (length (take 21 t)))
     ∙ zeros-after 21 0 t)
 
-pub time-seventeen : (t : List ℕ) → length t ≡ 17 → splice (splice (replicate 21 0) 0 (take 21 t)) 17 (bytesOf ".000") ≡ timeField 21 t
+pub time-seventeen : (t : List ℕ) → length t ≡ 17 → splice (splice (replicate 21 0) 0 (take 21 t)) 17 (bytesOf ".000") ≡ filled 21 (fullTime t)
 time-seventeen t h =
     let n : length (t ++ bytesOf ".000") ≡ 21 = length-append t (bytesOf ".000") ∙ omega arith in
     ap (λ (x : List ℕ). splice (splice (replicate 21 0) 0 x) 17 (bytesOf ".000")) (take-all 21 t (omega arith))
@@ -202,8 +197,8 @@ pub record Sound (f : Fill) : Type 0 where
   pub shares-some : 1 ≤ f .shares
   pub shares-cum : f .shares ≤ f .cum
   pub cum-quantity : f .cum ≤ f .quantity
-  pub quantity-most : f .quantity ≤ 999999
-  pub price-most : f .price ≤ 99999999999
+  pub quantity-most : f .quantity ≤ mostContracts
+  pub price-most : f .price ≤ mostPrice
   pub time-time : isTime (f .time) ≡ true
 
 text-lawful : (f : Fill) (i width : ℕ) (t : List ℕ) → getD (partsOf f) i [] ≡ textField width t → 1 ≤ length t → length t < width → width ≤ 256 → allIn 33 126 t ≡ true
@@ -225,5 +220,10 @@ slot-lawful f y =
     let p = price-back f (omega arith) in
     let k = cum-back f (omega arith) in
     let t = time-back f (time-is (f .time) (y .time-time) .lengths) in
-    rw (a, b, d, e, q, s, p, k, t, y .side-one, le-leb 1 (f .shares) (y .shares-some), le-leb (f .shares) (f .cum) (y .shares-cum), le-leb (f .cum) (f .quantity) (y .cum-quantity), le-leb (f .quantity) 999999 (y .quantity-most), le-leb (f .price) 99999999999 (y .price-most))
+    let some = le-leb 1 (f .shares) (y .shares-some) in
+    let sum = le-leb (f .shares) (f .cum) (y .shares-cum) in
+    let of = le-leb (f .cum) (f .quantity) (y .cum-quantity) in
+    let most = le-leb (f .quantity) mostContracts (y .quantity-most) in
+    let dearest = le-leb (f .price) mostPrice (y .price-most) in
+    rw (a, b, d, e, q, s, p, k, t, y .side-one, some, sum, of, most, dearest)
     (full-is-time (f .time) (y .time-time))

@@ -6,10 +6,14 @@ use mathlib.Core.Bool.{Bool, cond}
 use lib.ListN.{length}
 use Rattle.octet.specs.Splice.{splice, fitsAt}
 use Rattle.octet.proofs.Unique.{Answer, one-answer, Writes, one-writing}
-use Rattle.fill.specs.Slot.{Fill, bodyOf, slotOf, isFill, execOf, orderOf, symbolOf, sideOf, quantityOf, sharesOf, priceOf, cumOf, timeOf, slotLawful, lineOf}
+use Rattle.fill.specs.Slot.{Fill, bodyOf, slotOf, isFill, execOf, orderOf, symbolOf, sideOf, sharesOf, priceOf, cumOf, slotLawful, lineLeast, lineOf}
+use Rattle.answer.specs.declared.Setup.{Setup}
 
 pub slot-with-one : (f : Fill) {r r′ : List ℕ} → Answer (slotOf (bodyOf f)) r → Answer (slotOf (bodyOf f)) r′ → r ≡ r′
 slot-with-one f p q = one-answer p q
+
+pub line-least-one : (setup : Setup) {r r′ : ℕ} → Answer (lineLeast setup) r → Answer (lineLeast setup) r′ → r ≡ r′
+line-least-one setup p q = one-answer p q
 
 module _ (s : List ℕ) where
   pub is-fill-one : {r r′ : Bool} → Answer (isFill s) r → Answer (isFill s) r′ → r ≡ r′
@@ -27,9 +31,6 @@ module _ (s : List ℕ) where
   pub side-of-one : {r r′ : ℕ} → Answer (sideOf s) r → Answer (sideOf s) r′ → r ≡ r′
   side-of-one p q = one-answer p q
 
-  pub quantity-of-one : {r r′ : ℕ} → Answer (quantityOf s) r → Answer (quantityOf s) r′ → r ≡ r′
-  quantity-of-one p q = one-answer p q
-
   pub shares-of-one : {r r′ : ℕ} → Answer (sharesOf s) r → Answer (sharesOf s) r′ → r ≡ r′
   shares-of-one p q = one-answer p q
 
@@ -38,9 +39,6 @@ module _ (s : List ℕ) where
 
   pub cum-of-one : {r r′ : ℕ} → Answer (cumOf s) r → Answer (cumOf s) r′ → r ≡ r′
   cum-of-one p q = one-answer p q
-
-  pub time-of-one : {r r′ : List ℕ} → Answer (timeOf s) r → Answer (timeOf s) r′ → r ≡ r′
-  time-of-one p q = one-answer p q
 
   pub is-lawful-one : {r r′ : Bool} → Answer (slotLawful s) r → Answer (slotLawful s) r′ → r ≡ r′
   is-lawful-one p q = one-answer p q

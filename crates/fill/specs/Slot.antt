@@ -1,12 +1,15 @@
 -- A fill is a slot: a byte that says that it is one, and the body of its note. Its parts, when it is lawful, and its line of the listing.
-use Prim.Native.Nat.{ℕ, _+_, _-_, _*_}
+use Prim.Native.Nat.{ℕ, _+_}
 use mathlib.Core.List.{List, [], _∷_, _++_}
 use mathlib.Core.Bool.{Bool, cond, _&&_}
-use lib.ListN.{length, getD, take, drop, replicate}
+use lib.ListN.{length, getD, take, drop}
 use lib.Dec.{leb, eqb}
-use Rattle.octet.specs.Bytes.{bytesOf, between, part, joined, sumOf}
-use Rattle.octet.specs.Places.{high, bigEndian}
-use Rattle.octet.specs.Padded.{padded, paddedOk, textOf}
+use Rattle.octet.specs.Bytes.{bytesOf, between, part, sumOf}
+use Rattle.octet.specs.Places.{bigEndian}
+use Rattle.octet.specs.Padded.{paddedOk, textOf}
+use Rattle.parts.specs.Parts.{Part, Text, Number, Raw, Value, Bytes, Count, widthsOf, laid}
+use Rattle.answer.specs.declared.Setup.{Setup}
+use Rattle.answer.specs.Numbers.{mostContracts}
 use Rattle.text.specs.Decimal.{decimal, priceText}
 use Rattle.value.specs.Value.{isTime}
 
@@ -31,8 +34,12 @@ fillOf exec order symbol side quantity shares price cum time =
 
 -- ---- the body: "ExecID 21, OrderID 21, symbol 9, side 1 (a number), OrderQty 4, LastShares 4, price 8, CumQty 4, time (60) 21"
 
+-- its parts; "texts a length byte and zero padding", "The time has no length byte"
+abbrev pub slotParts : List Part
+slotParts = Text 21 ∷ Text 21 ∷ Text 9 ∷ Number 1 ∷ Number 4 ∷ Number 4 ∷ Number 8 ∷ Number 4 ∷ Raw 21 ∷ []
+
 abbrev pub widths : List ℕ
-widths = 21 ∷ 21 ∷ 9 ∷ 1 ∷ 4 ∷ 4 ∷ 8 ∷ 4 ∷ 21 ∷ []
+widths = widthsOf slotParts
 
 abbrev pub widthOf : ℕ → ℕ
 widthOf i = getD widths i 0
@@ -43,32 +50,19 @@ bodyWidth = sumOf widths
 abbrev pub slotWidth : ℕ
 slotWidth = 1 + bodyWidth
 
--- "512 fills"
-abbrev pub mostFills : ℕ
-mostFills = 512
-
-abbrev pub bookWidth : ℕ
-bookWidth = mostFills * slotWidth
-
--- "texts a length byte and zero padding"; a text that is too long is cut
-abbrev pub textField : ℕ → List ℕ → List ℕ
-textField width t = padded width (take (width - 1) t)
-
--- "The time has no length byte; one of 17 bytes gets .000"
+-- "one of 17 bytes gets .000"
 abbrev pub fullTime : List ℕ → List ℕ
 fullTime t = cond (eqb (length t) 17) (t ++ bytesOf ".000") t
 
-abbrev pub timeField : ℕ → List ℕ → List ℕ
-timeField width t = take width (fullTime t ++ replicate width 0)
+-- what a report says for each part
+abbrev pub valuesOf : Fill → List Value
+valuesOf f =
+    Bytes (f .exec) ∷ Bytes (f .order) ∷ Bytes (f .symbol) ∷ Count (f .side) ∷ Count (f .quantity) ∷ Count (f .shares) ∷ Count (f .price) ∷ Count (f .cum)
+    ∷ Bytes (fullTime (f .time)) ∷ []
 
--- the parts of the body, in order
-abbrev pub partsOf : Fill → List (List ℕ)
-partsOf f =
-    textField (widthOf 0) (f .exec) ∷ textField (widthOf 1) (f .order) ∷ textField (widthOf 2) (f .symbol) ∷ high (widthOf 3) (f .side)
-    ∷ high (widthOf 4) (f .quantity) ∷ high (widthOf 5) (f .shares) ∷ high (widthOf 6) (f .price) ∷ high (widthOf 7) (f .cum) ∷ timeField (widthOf 8) (f .time) ∷ []
-
+-- a text that is too long is cut
 unfoldable pub bodyOf : Fill → List ℕ
-bodyOf f = joined (partsOf f)
+bodyOf f = laid slotParts (valuesOf f)
 
 -- the first byte of a slot says fill
 abbrev pub fillMark : ℕ
@@ -128,11 +122,15 @@ abbrev pub textsLawful : Slot → Bool
 textsLawful s = textLawful (execOf s) && textLawful (orderOf s) && textLawful (symbolOf s)
 
 abbrev pub sumsLawful : Slot → Bool
-sumsLawful s = leb 1 (sharesOf s) && leb (sharesOf s) (cumOf s) && leb (cumOf s) (quantityOf s) && leb (quantityOf s) 999999
+sumsLawful s = leb 1 (sharesOf s) && leb (sharesOf s) (cumOf s) && leb (cumOf s) (quantityOf s) && leb (quantityOf s) mostContracts
+
+-- "A price is 1 to 7 digits, or those, a point and 1 to 4 digits", "kept in ten-thousandths"
+abbrev pub mostPrice : ℕ
+mostPrice = 99999999999
 
 unfoldable pub slotLawful : Slot → Bool
 slotLawful s =
-    textsLawful s && between 1 2 (sideOf s) && sumsLawful s && leb (priceOf s) 99999999999 && isTime (timeOf s)
+    textsLawful s && between 1 2 (sideOf s) && sumsLawful s && leb (priceOf s) mostPrice && isTime (timeOf s)
 
 -- ---- "number, ExecID, OrderID, symbol, side, LastShares, price with four decimals, time, single spaces"
 
@@ -144,6 +142,18 @@ spaced (w ∷ v ∷ ws) = w ++ bytesOf " " ++ spaced (v ∷ ws)
 -- no line of a slot of bytes has more: "line buffer under 128 bytes"
 abbrev pub lineRoom : ℕ
 lineRoom = 128
+
+-- what a line buffer has at least, by the set-up
+abbrev pub lineLeast : Setup → ℕ
+lineLeast setup = lineRoom
+
+-- "number, ExecID, OrderID, symbol"
+abbrev pub namesOf : ℕ → Slot → List ℕ
+namesOf n s = spaced (decimal n ∷ textOf (execOf s) ∷ textOf (orderOf s) ∷ textOf (symbolOf s) ∷ [])
+
+-- "side, LastShares, price with four decimals"
+abbrev pub figuresOf : Slot → List ℕ
+figuresOf s = spaced (decimal (sideOf s) ∷ decimal (sharesOf s) ∷ priceText (priceOf s) ∷ [])
 
 abbrev pub lineFeed : List ℕ
 lineFeed = 10 ∷ []

@@ -1,21 +1,27 @@
 // A fill is a slot: a byte that says that it is one, and the body of its note as the F note has it after E and O.
 ghost use mathlib.Core.Path.{_≡_};
 ghost use mathlib.Core.Bool.{cond};
-ghost use mathlib.Core.List.{[], _∷_, _++_};
+ghost use mathlib.Core.List.{_++_};
 ghost use Prim.Native.Nat.{_+_, _≤_};
 ghost use lib.ListN.{length};
 ghost use Rattle.octet.specs.Bytes.{bytesOf};
 ghost use Rattle.octet.specs.Splice.{splice, fitsAt};
 ghost use Rattle.octet.specs.Padded.{textOf};
-ghost use Rattle.value.specs.Value.{isTime};
-ghost use Rattle.text.specs.Decimal.{decimal, priceText};
+ghost use Rattle.parts.specs.Relaid.{filled};
+ghost use Rattle.parts.specs.Parts.{textField};
+ghost use Rattle.text.specs.Decimal.{decimal};
 ghost use Rattle.text.specs.Writing.{empty, puts};
-ghost use Rattle.fill.specs.Slot.{fillOf, widthOf, textField, timeField, bodyOf, slotOf, isFill, execOf, orderOf, symbolOf, sideOf, quantityOf, sharesOf, priceOf, cumOf, timeOf, textLawful, textsLawful, sumsLawful, slotLawful, spaced, lineRoom, lineOf};
+ghost use Rattle.fill.specs.Slot.{fillOf, widthOf, fullTime, bodyOf, slotOf, isFill};
+ghost use Rattle.fill.specs.Slot.{execOf, orderOf, symbolOf, sideOf, quantityOf, sharesOf, priceOf, cumOf, timeOf};
+ghost use Rattle.fill.specs.Slot.{textLawful, textsLawful, sumsLawful, slotLawful, lineRoom, lineLeast, namesOf, figuresOf, lineOf};
+use answer::MOST_CONTRACTS;
+use answer::Setup;
 use octet::part;
 use text::Text;
-use value::Check;
 
 // "ExecID 21, OrderID 21, symbol 9, side 1 (a number), OrderQty 4, LastShares 4, price 8, CumQty 4, time (60) 21".
+pub const SLOT_WIDTHS: [u8; 9] = [21, 21, 9, 1, 4, 4, 8, 4, 21];
+
 pub const ID: usize = 21;
 
 const SYMBOL: usize = 9;
@@ -23,9 +29,9 @@ const SYMBOL: usize = 9;
 const TIME: usize = 21;
 
 // Where each part stands in a slot: after the byte that says fill, one after another.
-pub const EXEC_AT: usize = 1;
+const EXEC_AT: usize = 1;
 
-pub const ORDER_AT: usize = EXEC_AT + ID;
+const ORDER_AT: usize = EXEC_AT + ID;
 
 const SYMBOL_AT: usize = ORDER_AT + ID;
 
@@ -41,20 +47,16 @@ const CUM_AT: usize = PRICE_AT + 8;
 
 const TIME_AT: usize = CUM_AT + 4;
 
-// How many bytes a slot has, and how many slots a day's book.
+// How many bytes a slot has.
 pub const SLOT: usize = TIME_AT + TIME;
 
-pub const FILLS: usize = 512;
-
-pub const BOOK: usize = FILLS * SLOT;
-
-// The first byte of a slot says fill.
-const MARK: u8 = 1;
+// The first byte of a slot, where it is a fill.
+pub const IS_FILL: u8 = 1;
 
 pub fn is_fill(s: &[u8]) -> bool
     ensures { λ r. ⌜ r ≡ isFill (now (s .entry)) ⌝ }
 {
-    octet::byte_at(s, 0) == MARK
+    octet::byte_at(s, 0) == IS_FILL
 }
 
 pub fn exec_of(s: &[u8]) -> &[u8]
@@ -82,7 +84,7 @@ pub fn side_of(s: &[u8]) -> u32
     octet::byte_at(s, SIDE_AT) as u32
 }
 
-pub fn quantity_of(s: &[u8]) -> u32
+fn quantity_of(s: &[u8]) -> u32
     ensures { λ r. ⌜ r ≡ quantityOf (now (s .entry)) ⌝ }
 {
     octet::four_at(s, QUANTITY_AT)
@@ -106,7 +108,7 @@ pub fn cum_of(s: &[u8]) -> u32
     octet::four_at(s, CUM_AT)
 }
 
-pub fn time_of(s: &[u8]) -> &[u8]
+fn time_of(s: &[u8]) -> &[u8]
     ensures { λ r. ⌜ now r ≡ timeOf (now (s .entry)) ⌝ }
 {
     part(s, TIME_AT, TIME)
@@ -122,7 +124,7 @@ fn put_text(dst: &mut [u8], at: usize, width: usize, t: &[u8])
 
 // "The time has no length byte; one of 17 bytes gets .000".
 fn time_field(t: &[u8]) -> [u8; TIME]
-    ensures { λ r. ⌜ r ≡ timeField (widthOf 8) (now (t .entry)) ⌝ }
+    ensures { λ r. ⌜ r ≡ filled (widthOf 8) (fullTime (now (t .entry))) ⌝ }
 {
     let mut field = [0u8; TIME];
     octet::copy_into(&mut field, 0, part(t, 0, TIME));
@@ -147,7 +149,7 @@ pub fn slot_with(
     ensures { λ r. ⌜ r ≡ slotOf (bodyOf (fillOf (now (exec .entry)) (now (order .entry)) (now (symbol .entry)) side quantity shares price cum (now (time .entry)))) ⌝ }
 {
     let mut slot = [0u8; SLOT];
-    slot[0] = MARK;
+    slot[0] = IS_FILL;
     put_text(&mut slot, EXEC_AT, ID, exec);
     put_text(&mut slot, ORDER_AT, ID, order);
     put_text(&mut slot, SYMBOL_AT, SYMBOL, symbol);
@@ -160,9 +162,7 @@ pub fn slot_with(
     slot
 }
 
-// The values that a report can have: "38 and 32 are 1 to 999,999", "A price is 1 to 7 digits, .. and 1 to 4".
-const MOST_CONTRACTS: u32 = 999999;
-
+// "A price is 1 to 7 digits, or those, a point and 1 to 4 digits", "kept in ten-thousandths".
 const MOST_PRICE: u64 = 99999999999;
 
 // "all three of bytes 33 to 126".
@@ -203,16 +203,6 @@ fn sums_lawful(s: &[u8]) -> bool
     quantity <= MOST_CONTRACTS
 }
 
-fn is_time(v: &[u8]) -> bool
-    ensures { λ r. ⌜ r ≡ isTime (now (v .entry)) ⌝ }
-{
-    match value::read_time(v) {
-        Check::Good => true,
-        Check::BadForm(_) => false,
-        Check::OutOfRange => false,
-    }
-}
-
 // Whether a slot's body is so formed, with values that a report can have.
 pub fn is_lawful(s: &[u8]) -> bool
     ensures { λ r. ⌜ r ≡ slotLawful (now (s .entry)) ⌝ }
@@ -233,7 +223,7 @@ pub fn is_lawful(s: &[u8]) -> bool
     if MOST_PRICE < price_of(s) {
         return false;
     }
-    is_time(time_of(s))
+    value::is_time(time_of(s))
 }
 
 // A space and the text of a field more.
@@ -253,7 +243,7 @@ fn number_word(t: Text, n: u64) -> Text
 
 // "number, ExecID, OrderID, symbol".
 fn names(n: u32, s: &[u8]) -> Text
-    ensures { λ r. ⌜ r ≡ puts empty (spaced (decimal n ∷ textOf (execOf (now (s .entry))) ∷ textOf (orderOf (now (s .entry))) ∷ textOf (symbolOf (now (s .entry))) ∷ [])) ⌝ }
+    ensures { λ r. ⌜ r ≡ puts empty (namesOf n (now (s .entry))) ⌝ }
 {
     let number = Text::new().decimal(n as u64);
     let exec = text_word(number, exec_of(s));
@@ -263,7 +253,7 @@ fn names(n: u32, s: &[u8]) -> Text
 
 // "side, LastShares, price with four decimals", each with a space before it.
 fn figures(t: Text, s: &[u8]) -> Text
-    ensures { λ r. ⌜ r ≡ puts t (bytesOf " " ++ spaced (decimal (sideOf (now (s .entry))) ∷ decimal (sharesOf (now (s .entry))) ∷ priceText (priceOf (now (s .entry))) ∷ [])) ⌝ }
+    ensures { λ r. ⌜ r ≡ puts t (bytesOf " " ++ figuresOf (now (s .entry))) ⌝ }
 {
     let side = number_word(t, side_of(s) as u64);
     let shares = number_word(side, shares_of(s) as u64);
@@ -280,6 +270,13 @@ fn line_text(n: u32, s: &[u8]) -> Text
 
 // No line is longer: "line buffer under 128 bytes".
 pub const LINE: usize = 128;
+
+// What a line buffer has at least, by the set-up.
+pub fn line_least(setup: Setup) -> usize
+    ensures { λ r. ⌜ r ≡ lineLeast setup ⌝ }
+{
+    LINE
+}
 
 // Writes the line of fill n from the front of `line`, and says how long it is; where it does not fit nothing changes, and
 // the answer is 0. It has at most LINE bytes.

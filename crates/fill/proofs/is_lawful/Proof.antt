@@ -3,7 +3,7 @@ use borrow.Author.Tests.{not-true, not-false, lt-leb, le-leb}
 use native.Mathlib.Omega.{arith}
 use denote.Ref.{now}
 use Rattle.octet.proofs.Lists.{is-between, is-below, is-above}
-use Rattle.fill.specs.Slot.{sideOf, priceOf}
+use Rattle.fill.specs.Slot.{sideOf, priceOf, mostPrice}
 use Rattle.fill.proofs.Lawful.{lawful-by}
 use Rattle.value.specs.Value.{isTime}
 use borrow.Author.Needs.{needs}
@@ -38,14 +38,14 @@ returns-5 c =
     let s = now (c .before .before .before .before .before .before .before .before .before .before .args .s) in
     let e = c .before .before .before .before .before .before .side-of .ensures in
     let p = c .before .price-of .ensures in
-    lawful-by s (sym (c .before .before .before .before .before .before .before .before .texts-lawful .ensures) ∙ not-false _ (c .before .before .before .before .before .before .before .if1 .left)) (is-between 1 2 (sideOf s) (omega arith) (omega arith)) (sym (c .before .before .before .sums-lawful .ensures) ∙ not-false _ (c .before .before .if4 .left)) (lt-leb (priceOf s) 99999999999 (omega arith)) refl
+    lawful-by s (sym (c .before .before .before .before .before .before .before .before .texts-lawful .ensures) ∙ not-false _ (c .before .before .before .before .before .before .before .if1 .left)) (is-between 1 2 (sideOf s) (omega arith) (omega arith)) (sym (c .before .before .before .sums-lawful .ensures) ∙ not-false _ (c .before .before .if4 .left)) (lt-leb (priceOf s) mostPrice (omega arith)) refl
 
 returns-6 : tie.Need-returns-6
 returns-6 c =
     let s = now (c .before .before .before .before .before .before .before .before .before .before .before .before .args .s) in
     let e = c .before .before .before .before .before .before .before .before .side-of .ensures in
     let p = c .before .before .before .price-of .ensures in
-    lawful-by s (sym (c .before .before .before .before .before .before .before .before .before .before .texts-lawful .ensures) ∙ not-false _ (c .before .before .before .before .before .before .before .before .before .if1 .left)) (is-between 1 2 (sideOf s) (omega arith) (omega arith)) (sym (c .before .before .before .before .before .sums-lawful .ensures) ∙ not-false _ (c .before .before .before .before .if4 .left)) (le-leb (priceOf s) 99999999999 (omega arith)) (sym (ap isTime (c .before .time-of .ensures)) ∙ sym (c .is-time .ensures))
+    lawful-by s (sym (c .before .before .before .before .before .before .before .before .before .before .texts-lawful .ensures) ∙ not-false _ (c .before .before .before .before .before .before .before .before .before .if1 .left)) (is-between 1 2 (sideOf s) (omega arith) (omega arith)) (sym (c .before .before .before .before .before .sums-lawful .ensures) ∙ not-false _ (c .before .before .before .before .if4 .left)) (le-leb (priceOf s) mostPrice (omega arith)) (sym (ap isTime (c .before .time-of .ensures)) ∙ sym (c .is-time .ensures))
 
 pub is-lawful-spec : {M : Type 1} → statement M
 is-lawful-spec =

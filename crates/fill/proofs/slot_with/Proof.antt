@@ -9,9 +9,20 @@ use Rattle.fill.proofs.slot_with.Tie as tie
 
 returns : tie.Need-returns
 returns c =
-    let start = c .before .before .before .before .before .before .before .before .before .before .before .before .before .before .before .before .before .before .before .before .before .before .before .before .before .before .before .before .before .before in
+    let time = c .before in
+    let cum = time .before .before .before .before .before in
+    let price = cum .before .before .before in
+    let shares = price .before .before .before in
+    let quantity = shares .before .before .before in
+    let symbol = quantity .before .before .before in
+    let order = symbol .before .before .before in
+    let exec = order .before .before .before in
+    let start = exec .before .before .before .before .before .before in
     let small : start .args .side < 256 = omega (arith, start .fits) in
-    slot-made _ _ _ _ _ _ _ _ _ _ _ refl small (c .before .before .before .before .before .before .before .before .before .before .before .before .before .before .before .before .before .before .before .before .before .before .before .before .put-text .ensures) (c .before .before .before .before .before .before .before .before .before .before .before .before .before .before .before .before .before .before .before .before .before .put-text2 .ensures) (c .before .before .before .before .before .before .before .before .before .before .before .before .before .before .before .before .before .before .put-text3 .ensures) refl (c .before .before .before .before .before .before .before .before .before .before .before .before .before .before .before .put-four .ensures .1) (c .before .before .before .before .before .before .before .before .before .before .before .before .put-four2 .ensures .1) (c .before .before .before .before .before .before .before .before .before .put-eight .ensures .1) (c .before .before .before .before .before .before .put-four3 .ensures .1) (c .before .copy-into .ensures .1 ∙ ap (splice _ 73) (c .before .before .before .time-field .ensures))
+    slot-made _ _ _ _ _ _ _ _ _ _ _ refl small
+    (exec .put-text .ensures) (order .put-text2 .ensures) (symbol .put-text3 .ensures) refl
+    (quantity .put-four .ensures .1) (shares .put-four2 .ensures .1) (price .put-eight .ensures .1) (cum .put-four3 .ensures .1)
+    (time .copy-into .ensures .1 ∙ ap (splice _ 73) (c .before .before .before .time-field .ensures))
 
 pub slot-with-spec : {M : Type 1} → statement M
 slot-with-spec =

@@ -6,6 +6,7 @@ use Prim.Native.Nat.{ℕ}
 use Rattle.fill.specs.Slot.{sharesOf, cumOf, quantityOf}
 use Rattle.fill.proofs.Lawful.{sums-by}
 use lib.Dec.{leb}
+use Rattle.answer.specs.Numbers.{mostContracts}
 use borrow.Author.Needs.{needs}
 use Rattle.fill.proofs.sums_lawful.Statement.{statement}
 use Rattle.fill.proofs.sums_lawful.Tie as tie
@@ -40,7 +41,7 @@ returns-4 c =
     let a = c .before .before .before .before .before .shares-of .ensures in
     let b = c .before .before .before .before .cum-of .ensures in
     let q = c .before .before .before .quantity-of .ensures in
-    ap (λ (n : ℕ). leb n 999999) q ∙ sums-by s (le-leb 1 (sharesOf s) (omega arith)) (le-leb (sharesOf s) (cumOf s) (omega arith)) (le-leb (cumOf s) (quantityOf s) (omega arith)) refl
+    ap (λ (n : ℕ). leb n mostContracts) q ∙ sums-by s (le-leb 1 (sharesOf s) (omega arith)) (le-leb (sharesOf s) (cumOf s) (omega arith)) (le-leb (cumOf s) (quantityOf s) (omega arith)) refl
 
 pub sums-lawful-spec : {M : Type 1} → statement M
 sums-lawful-spec =
