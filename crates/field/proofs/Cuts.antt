@@ -20,7 +20,7 @@ use Rattle.octet.proofs.Cases.{le-or-lt}
 use Rattle.octet.proofs.Lists.{drop-done, length-part, part-drop, until-most, drop-take}
 use Rattle.text.specs.Decimal.{digitRun}
 use Rattle.field.specs.Pieces.{Pieces, onFirst, piecesOf, tagged, tagOf, valueAfter, valued, carries, valuesOf, textAt, pieceScan, scanOf, andThen}
-use Rattle.field.specs.Stands.{pieceAt, located, orHere, placeFrom, placeOf, stepOf, faultOf, hits}
+use Rattle.field.specs.Stands.{pieceAt, located, orHere, placeFrom, placeOf, stepOf, pieceFault, hits}
 use Rattle.field.specs.declared.Scan.{Scan}
 use Rattle.field.specs.declared.Scan.the-variants.{Sound, Malformed, Empty}
 use Rattle.field.specs.declared.Place.{Place}
@@ -181,7 +181,7 @@ module _ (tag : ℕ) where
 -- ---- the scan
 abbrev pub scanIn : List Piece → Scan
 scanIn [] = Sound
-scanIn (g ∷ gs) = andThen (faultOf g) (scanIn gs)
+scanIn (g ∷ gs) = andThen (pieceFault g) (scanIn gs)
 
 pub and-then-sound : (a : Scan) → andThen a Sound ≡ a
 and-then-sound Sound = refl
@@ -200,11 +200,11 @@ valued-by p u =
     (λ (h : digitRun p + 1 < length p). rw (lt-ltb _ _ h, ne-eqb (length p - (digitRun p + 1)) 0 (λ z. omega arith)))
     (le-or-lt (length p) (digitRun p + 1))
 
-pub fault-piece : (at : ℕ) (p : List ℕ) → pieceScan p ≡ faultOf (pieceAt at p)
+pub fault-piece : (at : ℕ) (p : List ℕ) → pieceScan p ≡ pieceFault (pieceAt at p)
 unfolding pieceScan pieceAt
 fault-piece at p = by (tagged p)
   where
-    by : (t : Bool) → cond t (cond (valued p) Sound (Empty (tagOf p))) Malformed ≡ faultOf (cond t (Field (tagOf p) (at + (digitRun p + 1)) (length p - (digitRun p + 1))) Stray)
+    by : (t : Bool) → cond t (cond (valued p) Sound (Empty (tagOf p))) Malformed ≡ pieceFault (cond t (Field (tagOf p) (at + (digitRun p + 1)) (length p - (digitRun p + 1))) Stray)
     by true = valued-by p (tagOf p)
     by false = refl
 

@@ -1,31 +1,24 @@
--- One pass fills the index, and the index says of every tag what the pieces of the body say.
---     filled     the lists that the pass fills are those of the definition
---     value-law, count-law, scan-law     lookups by the index of a body are the definitions on its pieces, for every tag
---     missing-law, first-law, has-law, has-text     what a count and a value say of a tag
---     values-none, values-one, values-more     what a count says of the values themselves
+-- One pass fills the index.
+--     pass-on, filled     a step of the pass, and that the list which it leaves is the definition's
+--     column-of-index     what the index has of a listed tag
 use mathlib.Core.Path.{_≡_, refl, ap, sym, _∙_}
 use mathlib.Core.Bool.{Bool, true, false, cond, not, _&&_}
-use mathlib.Core.List.{List, [], _∷_, map}
-use mathlib.Core.Option.{Option, none, some}
+use mathlib.Core.List.{List, [], _∷_, _++_, map}
 use Prim.Native.Nat.{ℕ, zero, suc, _+_, _<_, min}
 use native.Mathlib.Omega.{arith}
 use native.Mathlib.Nat.{zero-add}
-use lib.ListN.{length, getD, drop, set, replicate, length-set, length-map, length-replicate, getD-replicate}
-use lib.Seq.{getD-set-same, getD-set-other, ext-getD}
+use lib.ListN.{length, getD, take, drop, set, replicate, length-set, length-map, length-take, length-drop, length-replicate, getD-replicate, take-append-drop}
+use lib.Seq.{getD-set-same, getD-set-other, getD-take, getD-drop, ext-getD}
 use lib.Dec.{eqb, ltb}
 use borrow.Author.Tests.{eqb-true, eqb-false, ltb-true, lt-ltb, eq-eqb, ne-eqb, not-true}
-use Rattle.octet.specs.Bytes.{part, same}
-use Rattle.octet.specs.Maybe.{isNone, unless, first}
-use Rattle.octet.proofs.Cases.{and-both, ap-cond}
-use Rattle.field.specs.Pieces.{Pieces, piecesOf, valuesOf, firstOf, isThat, has, textAt, scanOf}
+use Rattle.octet.proofs.Cases.{and-both}
+use Rattle.field.specs.Pieces.{piecesOf, countOf}
 use Rattle.field.specs.Stands.{located, placeFrom, placeOf}
-use Rattle.field.specs.Index.{listed, columnCount, position, columnOf, startIn, lenIn, countOf, indexOf, valueIn, countIn, Columns, columns, notedAt, noted, Index}
-use Rattle.field.specs.declared.Place.{Place}
-use Rattle.field.specs.declared.Place.the-variants.{At, Missing}
+use Rattle.field.specs.Index.{listed, columnCount, position, columnOf, startIn, lenIn, indexOf, startAt, lenAt, countAt, setCount, notedAt, noted}
+use Rattle.field.specs.declared.Place.the-variants.{At}
 use Rattle.field.specs.declared.Piece.{Piece}
 use Rattle.field.specs.declared.Piece.the-variants.{Field, Stray}
-use Rattle.field.specs.declared.Scan.{Scan}
-use Rattle.field.proofs.Cuts.{hitsIn, count-at, partBy, value-at}
+use Rattle.field.proofs.Cuts.{hitsIn, count-at}
 
 -- ---- each listed tag has a column of its own
 
@@ -88,27 +81,47 @@ map-at f [] k h = absurd (omega arith)
 map-at f (x ∷ l) zero h = refl
 map-at f (x ∷ l) (suc k) h = map-at f l k (omega arith)
 
-by-columns : (f : ℕ → ℕ) (xs : List ℕ) → length xs ≡ columnCount → ((t : ℕ) → columnOf t < columnCount → getD xs (columnOf t) 0 ≡ f t) → xs ≡ map f listed
-by-columns f xs e h =
-    ext-getD 0 xs (map f listed) (e ∙ sym size ∙ sym (length-map listed f))
-    (λ k l. (let q = column-at k (omega arith) in
-    ap (λ (j : ℕ). getD xs j 0) (sym q) ∙ h (getD listed k 0) (omega arith) ∙ sym (map-at f listed k (omega (arith, size)))))
+-- ---- three lists, one after another, known by what stands at each place
 
-at-column : (f : ℕ → ℕ) (t : ℕ) → columnOf t < columnCount → getD (map f listed) (columnOf t) 0 ≡ f t
-at-column f t h = map-at f listed (columnOf t) (omega (arith, size)) ∙ ap f (column-tag t h)
+module _ (n : ℕ) (x : List ℕ) (size : length x ≡ n + (n + n)) where
+  front : (xs : List ℕ) → length xs ≡ n → ((k : ℕ) → k < n → getD x k 0 ≡ getD xs k 0) → take n x ≡ xs
+  front xs e h =
+      ext-getD 0 (take n x) xs (length-take n x ∙ omega (arith, size, e))
+      (λ k l. (let m : k < n = omega (arith, l, length-take n x, size) in getD-take n x k 0 m ∙ h k m))
+
+  middle : (bs : List ℕ) → length bs ≡ n → ((k : ℕ) → k < n → getD x (n + k) 0 ≡ getD bs k 0) → take n (drop n x) ≡ bs
+  middle bs e h =
+      ext-getD 0 (take n (drop n x)) bs (length-take n (drop n x) ∙ omega (arith, size, e, length-drop n x))
+      (λ k l.
+      (let m : k < n = omega (arith, l, length-take n (drop n x)) in getD-take n (drop n x) k 0 m ∙ getD-drop n x k 0 ∙ h k m))
+
+  back : (cs : List ℕ) → length cs ≡ n → ((k : ℕ) → k < n → getD x (n + n + k) 0 ≡ getD cs k 0) → drop n (drop n x) ≡ cs
+  back cs e h =
+      let long : length (drop n (drop n x)) ≡ n = length-drop n (drop n x) ∙ omega (arith, size, length-drop n x) in
+      ext-getD 0 (drop n (drop n x)) cs (long ∙ sym e)
+      (λ k l.
+      (let m : k < n = omega (arith, l, long) in
+      let at : n + (n + k) ≡ n + n + k = omega arith in
+      getD-drop n (drop n x) k 0 ∙ getD-drop n x (n + k) 0 ∙ ap (λ (j : ℕ). getD x j 0) at ∙ h k m))
+
+  three : (xs bs cs : List ℕ) → take n x ≡ xs → take n (drop n x) ≡ bs → drop n (drop n x) ≡ cs → x ≡ xs ++ (bs ++ cs)
+  three xs bs cs p q r =
+      sym (take-append-drop n x)
+      ∙ ap (λ (y : List ℕ). take n x ++ y) (sym (take-append-drop n (drop n x)))
+      ∙ rw (p, q, r)
 
 -- ---- one column: its first field is kept, a second and a third are counted as 2
 
-record Column : Type 0 where
+pub record Column : Type 0 where
   pub start : ℕ
   pub len : ℕ
   pub count : ℕ
 
-abbrev column : ℕ → ℕ → ℕ → Column
+abbrev pub column : ℕ → ℕ → ℕ → Column
 column s n c = record { start = s; len = n; count = c }
 
-abbrev columnIn : Columns → ℕ → Column
-columnIn x k = column (getD (x .start) k 0) (getD (x .len) k 0) (getD (x .count) k 0)
+abbrev pub columnIn : List ℕ → ℕ → Column
+columnIn x k = column (startAt x k) (lenAt x k) (countAt x k)
 
 abbrev more : Column → ℕ → ℕ → Column
 more z s n = cond (eqb (z .count) 0) (column s n 1) (column (z .start) (z .len) 2)
@@ -154,190 +167,168 @@ module _ (t : ℕ) where
       by true i = marked-more s n 0 gs ∙ ap (column s n) (count (hitsIn t gs))
       by false i = rw (zero-add (hitsIn t gs)) i
 
--- ---- the three lists keep their lengths, and a field goes to its tag's column and to no other
+-- ---- the index keeps its length, and a field goes to its tag's column and to no other
 
-record Sized (x : Columns) : Type 0 where
-  pub starts : length (x .start) ≡ columnCount
-  pub lens : length (x .len) ≡ columnCount
-  pub counts : length (x .count) ≡ columnCount
+abbrev Sized : List ℕ → Type 0
+Sized x = length x ≡ columnCount + (columnCount + columnCount)
 
-sized : (x : Columns) (g : Piece) → Sized x → Sized (noted x g)
+-- a first field, as it is stored
+abbrev kept : List ℕ → ℕ → ℕ → ℕ → List ℕ
+kept x k s n = setCount (set (set x k s) (columnCount + k) n) k 1
+
+kept-sized : (x : List ℕ) (k s n : ℕ) → length (kept x k s n) ≡ length x
+kept-sized x k s n =
+    length-set (set (set x k s) (columnCount + k) n) (columnCount + columnCount + k) 1
+    ∙ length-set (set x k s) (columnCount + k) n
+    ∙ length-set x k s
+
+sized : (x : List ℕ) (g : Piece) → Sized x → Sized (noted x g)
 unfolding noted notedAt
 sized x Stray z = z
-sized x (Field u s n) z = by (ltb (columnOf u) columnCount) (eqb (getD (x .count) (columnOf u) 0) 0)
+sized x (Field u s n) z = by (ltb (columnOf u) columnCount) (eqb (countAt x (columnOf u)) 0)
   where
-    by : (p q : Bool)
-        → Sized (cond p (cond q (columns (set (x .start) (columnOf u) s) (set (x .len) (columnOf u) n) (set (x .count) (columnOf u) 1)) (columns (x .start) (x .len) (set (x .count) (columnOf u) 2))) x)
-    by true true =
-        record { starts = length-set (x .start) (columnOf u) s ∙ z .starts; lens = length-set (x .len) (columnOf u) n ∙ z .lens; counts = length-set (x .count) (columnOf u) 1 ∙ z .counts }
-    by true false = record { starts = z .starts; lens = z .lens; counts = length-set (x .count) (columnOf u) 2 ∙ z .counts }
+    by : (p q : Bool) → Sized (cond p (cond q (kept x (columnOf u) s n) (setCount x (columnOf u) 2)) x)
+    by true true = kept-sized x (columnOf u) s n ∙ z
+    by true false = length-set x (columnCount + columnCount + columnOf u) 2 ∙ z
     by false q = z
 
-own : (x : Columns) (k s n : ℕ) → k < columnCount → Sized x → columnIn (notedAt x k s n) k ≡ more (columnIn x k) s n
+own : (x : List ℕ) (k s n : ℕ) → k < columnCount → Sized x → columnIn (notedAt x k s n) k ≡ more (columnIn x k) s n
 unfolding notedAt
-own x k s n h z = rw (lt-ltb k columnCount h) (by (eqb (getD (x .count) k 0) 0))
+own x k s n h z = rw (lt-ltb k columnCount h) (by (eqb (countAt x k) 0))
   where
-    by : (q : Bool)
-        → columnIn (cond q (columns (set (x .start) k s) (set (x .len) k n) (set (x .count) k 1)) (columns (x .start) (x .len) (set (x .count) k 2))) k
-        ≡ cond q (column s n 1) (column (getD (x .start) k 0) (getD (x .len) k 0) 2)
-    by true =
-        rw (getD-set-same (x .start) k s 0 (omega (arith, z .starts)), getD-set-same (x .len) k n 0 (omega (arith, z .lens)), getD-set-same (x .count) k 1 0 (omega (arith, z .counts)))
-    by false = rw (getD-set-same (x .count) k 2 0 (omega (arith, z .counts)))
+    a : List ℕ
+    a = set x k s
 
-other : (x : Columns) (j k s n : ℕ) → (k ≡ j → ⊥) → columnIn (notedAt x j s n) k ≡ columnIn x k
+    b : List ℕ
+    b = set a (columnCount + k) n
+
+    by : (q : Bool) → columnIn (cond q (kept x k s n) (setCount x k 2)) k ≡ cond q (column s n 1) (column (startAt x k) (lenAt x k) 2)
+    by true =
+        rw (
+          getD-set-same b (columnCount + columnCount + k) 1 0 (omega (arith, length-set a (columnCount + k) n, length-set x k s, z)),
+          getD-set-other b (columnCount + columnCount + k) (columnCount + k) 1 0 (λ e. omega arith),
+          getD-set-same a (columnCount + k) n 0 (omega (arith, length-set x k s, z)),
+          getD-set-other b (columnCount + columnCount + k) k 1 0 (λ e. omega arith),
+          getD-set-other a (columnCount + k) k n 0 (λ e. omega arith),
+          getD-set-same x k s 0 (omega (arith, z)),
+        )
+    by false =
+        rw (
+          getD-set-same x (columnCount + columnCount + k) 2 0 (omega (arith, z)),
+          getD-set-other x (columnCount + columnCount + k) (columnCount + k) 2 0 (λ e. omega arith),
+          getD-set-other x (columnCount + columnCount + k) k 2 0 (λ e. omega arith),
+        )
+
+-- a store to a place that is none of column k
+apart : (x : List ℕ) (j k v : ℕ) → (k ≡ j → ⊥) → (columnCount + k ≡ j → ⊥) → (columnCount + columnCount + k ≡ j → ⊥) → columnIn (set x j v) k ≡ columnIn x k
+apart x j k v d e f =
+    rw (getD-set-other x j k v 0 d, getD-set-other x j (columnCount + k) v 0 e, getD-set-other x j (columnCount + columnCount + k) v 0 f)
+
+other : (x : List ℕ) (j k s n : ℕ) → k < columnCount → (k ≡ j → ⊥) → columnIn (notedAt x j s n) k ≡ columnIn x k
 unfolding notedAt
-other x j k s n d = by (ltb j columnCount) (eqb (getD (x .count) j 0) 0)
+other x j k s n h d = by (ltb j columnCount) (eqb (countAt x j) 0) refl
   where
-    by : (p q : Bool)
-        → columnIn (cond p (cond q (columns (set (x .start) j s) (set (x .len) j n) (set (x .count) j 1)) (columns (x .start) (x .len) (set (x .count) j 2))) x) k ≡ columnIn x k
-    by true true = rw (getD-set-other (x .start) j k s 0 d, getD-set-other (x .len) j k n 0 d, getD-set-other (x .count) j k 1 0 d)
-    by true false = rw (getD-set-other (x .count) j k 2 0 d)
-    by false q = refl
+    counted : (y : List ℕ) (c : ℕ) → j < columnCount → columnIn (setCount y j c) k ≡ columnIn y k
+    counted y c l = apart y (columnCount + columnCount + j) k c (λ e. omega arith) (λ e. omega arith) (λ e. d (omega arith))
+
+    by : (p q : Bool) → ltb j columnCount ≡ p → columnIn (cond p (cond q (kept x j s n) (setCount x j 2)) x) k ≡ columnIn x k
+    by true true e =
+        let l = ltb-true j columnCount e in
+        counted (set (set x j s) (columnCount + j) n) 1 l
+        ∙ apart (set x j s) (columnCount + j) k n (λ e. omega arith) (λ e. d (omega arith)) (λ e. omega arith)
+        ∙ apart x j k s d (λ e. omega arith) (λ e. omega arith)
+    by true false e = counted x 2 (ltb-true j columnCount e)
+    by false q e = refl
 
 -- ---- the pass
 
-abbrev pub columnsFrom : Columns → List Piece → Columns
-columnsFrom x [] = x
-columnsFrom x (g ∷ gs) = columnsFrom (noted x g) gs
+abbrev pub filledFrom : List ℕ → List Piece → List ℕ
+filledFrom x [] = x
+filledFrom x (g ∷ gs) = filledFrom (noted x g) gs
 
-abbrev pub noColumns : Columns
-noColumns = columns (replicate columnCount 0) (replicate columnCount 0) (replicate columnCount 0)
+abbrev pub nothing : List ℕ
+nothing = replicate (columnCount + columnCount + columnCount) 0
 
 -- one step of it
-pub pass-on : (x y : Columns) (g : Piece) (gs hs : List Piece) → hs ≡ g ∷ gs → y ≡ noted x g → columnsFrom x hs ≡ columnsFrom y gs
+pub pass-on : (x y : List ℕ) (g : Piece) (gs hs : List Piece) → hs ≡ g ∷ gs → y ≡ noted x g → filledFrom x hs ≡ filledFrom y gs
 pass-on x y g gs hs e f = rw (e, f)
 
-sized-from : (x : Columns) (gs : List Piece) → Sized x → Sized (columnsFrom x gs)
+sized-from : (x : List ℕ) (gs : List Piece) → Sized x → Sized (filledFrom x gs)
 sized-from x [] z = z
 sized-from x (g ∷ gs) z = sized-from (noted x g) gs (sized x g z)
 
-zeros : Sized noColumns
-zeros = record { starts = length-replicate {A = ℕ} columnCount 0; lens = length-replicate {A = ℕ} columnCount 0; counts = length-replicate {A = ℕ} columnCount 0 }
+zeros : Sized nothing
+zeros = length-replicate {A = ℕ} (columnCount + columnCount + columnCount) 0
+
+zero-at : (k : ℕ) → k < columnCount + columnCount + columnCount → getD nothing k 0 ≡ 0
+zero-at k h = getD-replicate (columnCount + columnCount + columnCount) k 0 0 h
 
 module _ (t : ℕ) (h : columnOf t < columnCount) where
-  noted-column : (x : Columns) (g : Piece) → Sized x → columnIn (noted x g) (columnOf t) ≡ marked t (columnIn x (columnOf t)) g
+  noted-column : (x : List ℕ) (g : Piece) → Sized x → columnIn (noted x g) (columnOf t) ≡ marked t (columnIn x (columnOf t)) g
   unfolding noted
   noted-column x Stray z = refl
   noted-column x (Field u s n) z = by (eqb u t) refl
     where
       by : (q : Bool) → eqb u t ≡ q → columnIn (notedAt x (columnOf u) s n) (columnOf t) ≡ cond q (more (columnIn x (columnOf t)) s n) (columnIn x (columnOf t))
       by true e = let q : u ≡ t = eqb-true u t e in ap (λ (v : ℕ). columnIn (notedAt x (columnOf v) s n) (columnOf t)) q ∙ own x (columnOf t) s n h z
-      by false e = other x (columnOf u) (columnOf t) s n (λ q. eqb-false u t e (column-own t u h q))
+      by false e = other x (columnOf u) (columnOf t) s n h (λ q. eqb-false u t e (column-own t u h q))
 
-  column-from : (x : Columns) (gs : List Piece) → Sized x → columnIn (columnsFrom x gs) (columnOf t) ≡ markedBy t (columnIn x (columnOf t)) gs
+  column-from : (x : List ℕ) (gs : List Piece) → Sized x → columnIn (filledFrom x gs) (columnOf t) ≡ markedBy t (columnIn x (columnOf t)) gs
   column-from x [] z = refl
   column-from x (g ∷ gs) z = column-from (noted x g) gs (sized x g z) ∙ ap (λ (y : Column). markedBy t y gs) (noted-column x g z)
 
-  column-is : (gs : List Piece) → columnIn (columnsFrom noColumns gs) (columnOf t) ≡ column (startIn (placeFrom t gs)) (lenIn (placeFrom t gs)) (min 2 (hitsIn t gs))
+  column-is : (gs : List Piece) → columnIn (filledFrom nothing gs) (columnOf t) ≡ column (startIn (placeFrom t gs)) (lenIn (placeFrom t gs)) (min 2 (hitsIn t gs))
   column-is gs =
-      column-from noColumns gs zeros
-      ∙ ap (λ (m : ℕ). markedBy t (column m m m) gs) (getD-replicate columnCount (columnOf t) 0 0 h)
-      ∙ marked-all t gs
+      column-from nothing gs zeros
+      ∙ rw (
+        zero-at (columnOf t) (omega arith),
+        zero-at (columnCount + columnOf t) (omega arith),
+        zero-at (columnCount + columnCount + columnOf t) (omega arith),
+      )
+      (marked-all t gs)
 
-columns-by : (x : Columns) (a b c : List ℕ) → x .start ≡ a → x .len ≡ b → x .count ≡ c → x ≡ columns a b c
-columns-by x a b c e f g = rw (← e, ← f, ← g)
+module _ (body : List ℕ) where
+  abbrev pub passed : List ℕ
+  passed = filledFrom nothing (located 0 (piecesOf body))
 
-pub filled : (body : List ℕ) → columnsFrom noColumns (located 0 (piecesOf body)) ≡ columns (indexOf body .start) (indexOf body .len) (indexOf body .count)
-unfolding indexOf placeOf countOf
-filled body =
-    let gs = located 0 (piecesOf body) in
-    let x = columnsFrom noColumns gs in
-    let z = sized-from noColumns gs zeros in
-    columns-by x _ _ _
-    (by-columns (λ (t : ℕ). startIn (placeFrom t gs)) (x .start) (z .starts) (λ t h. ap (λ (y : Column). y .start) (column-is t h gs)))
-    (by-columns (λ (t : ℕ). lenIn (placeFrom t gs)) (x .len) (z .lens) (λ t h. ap (λ (y : Column). y .len) (column-is t h gs)))
-    (by-columns (λ (t : ℕ). min 2 (length (valuesOf t (piecesOf body)))) (x .count) (z .counts)
-    (λ t h. ap (λ (y : Column). y .count) (column-is t h gs) ∙ ap (min 2) (sym (count-at t 0 (piecesOf body)))))
+  pub column-told : (t : ℕ) → columnOf t < columnCount
+      → columnIn passed (columnOf t) ≡ column (startIn (placeOf t body)) (lenIn (placeOf t body)) (countOf t (piecesOf body))
+  unfolding placeOf countOf
+  column-told t h =
+      let gs = located 0 (piecesOf body) in
+      column-is t h gs ∙ ap (λ (n : ℕ). column (startIn (placeFrom t gs)) (lenIn (placeFrom t gs)) (min 2 n)) (sym (count-at t 0 (piecesOf body)))
 
-pub scan-law : (body : List ℕ) → indexOf body .scan ≡ scanOf (piecesOf body)
-unfolding indexOf
-scan-law body = refl
+  -- at a column, by its tag
+  at : (f : ℕ → ℕ) (g : Column → ℕ) → ((t : ℕ) → columnOf t < columnCount → g (columnIn passed (columnOf t)) ≡ f t)
+      → (k : ℕ) → k < columnCount → g (columnIn passed k) ≡ getD (map f listed) k 0
+  at f g h k l =
+      let q = column-at k l in
+      ap (λ (j : ℕ). g (columnIn passed j)) (sym q) ∙ h (getD listed k 0) (omega (arith, q)) ∙ sym (map-at f listed k (omega (arith, size)))
 
--- what the pass leaves behind is the index
-pub index-is : (body start len count : List ℕ) (scan : Scan) → columnsFrom noColumns (located 0 (piecesOf body)) ≡ columns start len count → scanOf (piecesOf body) ≡ scan
-    → record { start = start; len = len; count = count; scan = scan } ≡ indexOf body
-index-is body start len count scan e f =
-    let g = sym e ∙ filled body in
-    let h : scan ≡ indexOf body .scan = sym f ∙ sym (scan-law body) in
-    ap (λ (x : Columns). made x scan) g ∙ ap (made (columns (indexOf body .start) (indexOf body .len) (indexOf body .count))) h
-  where
-    made : Columns → Scan → Index
-    made x q = record { start = x .start; len = x .len; count = x .count; scan = q }
-
--- ---- lookups by the index of a body, for every tag
-
-part-place : (body : List ℕ) (p : Place) → part (startIn p) (lenIn p) body ≡ partBy body p
-part-place body Missing = refl
-part-place body (At s n) = refl
-
--- what a count that stops at 2 says of the values themselves
-pub values-none : (vs : Pieces) → min 2 (length vs) ≡ 0 → vs ≡ []
-values-none [] e = refl
-values-none (v ∷ vs) e = absurd (omega arith)
-
-pub values-one : (vs : Pieces) → min 2 (length vs) ≡ 1 → vs ≡ unless [] (first vs) ∷ []
-values-one [] e = absurd (omega arith)
-values-one (v ∷ []) e = refl
-values-one (v ∷ w ∷ vs) e = absurd (omega arith)
-
-pub values-more : (vs : Pieces) → 1 < min 2 (length vs) → vs ≡ unless [] (first vs) ∷ getD vs 1 [] ∷ drop 2 vs
-values-more [] e = absurd (omega arith)
-values-more (v ∷ []) e = absurd (omega arith)
-values-more (v ∷ w ∷ vs) e = refl
-
-first-by : (vs : Pieces) → first vs ≡ cond (eqb (min 2 (length vs)) 0) none (some (unless [] (first vs)))
-first-by [] = refl
-first-by (v ∷ vs) = rw (ne-eqb (min 2 (suc (length vs))) 0 (λ z. omega arith))
-
-pub none-there : (vs : Pieces) → eqb (min 2 (length vs)) 0 ≡ isNone (first vs)
-none-there [] = refl
-none-there (v ∷ vs) = ne-eqb (min 2 (suc (length vs))) 0 (λ z. omega arith)
-
-module _ (body : List ℕ) (tag : ℕ) where
-  pub value-law : valueIn body (indexOf body .start) (indexOf body .len) tag ≡ textAt tag (piecesOf body)
-  unfolding valueIn indexOf
-  value-law = by (ltb (columnOf tag) columnCount) refl
+  pub filled : passed ≡ indexOf body
+  unfolding indexOf
+  filled =
+      three columnCount passed z _ _ _
+      (front columnCount passed z (map starts listed) (length-map listed starts ∙ size)
+      (at starts (λ (y : Column). y .start) (λ t h. ap (λ (y : Column). y .start) (column-told t h))))
+      (middle columnCount passed z (map lens listed) (length-map listed lens ∙ size)
+      (at lens (λ (y : Column). y .len) (λ t h. ap (λ (y : Column). y .len) (column-told t h))))
+      (back columnCount passed z (map counts listed) (length-map listed counts ∙ size)
+      (at counts (λ (y : Column). y .count) (λ t h. ap (λ (y : Column). y .count) (column-told t h))))
     where
-      by : (q : Bool) → ltb (columnOf tag) columnCount ≡ q
-          → cond q (part (getD (indexOf body .start) (columnOf tag) 0) (getD (indexOf body .len) (columnOf tag) 0) body) (textAt tag (piecesOf body)) ≡ textAt tag (piecesOf body)
-      by true e =
-          let h = ltb-true (columnOf tag) columnCount e in
-          rw (at-column (λ (t : ℕ). startIn (placeOf t body)) tag h, at-column (λ (t : ℕ). lenIn (placeOf t body)) tag h)
-          (part-place body (placeOf tag body) ∙ value-at tag body)
-      by false e = refl
+      z : Sized passed
+      z = sized-from nothing (located 0 (piecesOf body)) zeros
 
-  counted : countIn body (indexOf body .count) tag ≡ countOf tag (piecesOf body)
-  unfolding countIn indexOf
-  counted = by (ltb (columnOf tag) columnCount) refl
-    where
-      by : (q : Bool) → ltb (columnOf tag) columnCount ≡ q → cond q (getD (indexOf body .count) (columnOf tag) 0) (countOf tag (piecesOf body)) ≡ countOf tag (piecesOf body)
-      by true e = at-column (λ (t : ℕ). countOf t (piecesOf body)) tag (ltb-true (columnOf tag) columnCount e)
-      by false e = refl
+      starts : ℕ → ℕ
+      starts t = startIn (placeOf t body)
 
-  pub count-law : countIn body (indexOf body .count) tag ≡ min 2 (length (valuesOf tag (piecesOf body)))
-  unfolding countOf
-  count-law = counted
+      lens : ℕ → ℕ
+      lens t = lenIn (placeOf t body)
 
-  pub missing-law : eqb (countIn body (indexOf body .count) tag) 0 ≡ isNone (firstOf tag (piecesOf body))
-  missing-law = ap (λ (n : ℕ). eqb n 0) count-law ∙ none-there (valuesOf tag (piecesOf body))
+      counts : ℕ → ℕ
+      counts t = countOf t (piecesOf body)
 
-  -- the first field of a tag, and whether it has a value, by a count and a value
-  pub first-law : firstOf tag (piecesOf body)
-      ≡ cond (eqb (countIn body (indexOf body .count) tag) 0) none (some (valueIn body (indexOf body .start) (indexOf body .len) tag))
-  first-law = rw (count-law, value-law) (first-by (valuesOf tag (piecesOf body)))
-
-  pub has-law : (v : List ℕ) → has tag v (piecesOf body)
-      ≡ cond (eqb (countIn body (indexOf body .count) tag) 0) false (same v (valueIn body (indexOf body .start) (indexOf body .len) tag))
-  has-law v =
-      let c = countIn body (indexOf body .count) tag in
-      let w = valueIn body (indexOf body .start) (indexOf body .len) tag in
-      ap (isThat v) first-law ∙ ap-cond (isThat v) (eqb c 0) none (some w)
-
-  -- where the value asked for is not empty the count need not be looked at
-  pub has-text : (v : List ℕ) → 0 < length v → has tag v (piecesOf body) ≡ same v (valueIn body (indexOf body .start) (indexOf body .len) tag)
-  has-text v h = rw value-law (by v h (firstOf tag (piecesOf body)))
-    where
-      by : (v : List ℕ) → 0 < length v → (o : Option (List ℕ)) → isThat v o ≡ same v (unless [] o)
-      by [] h o = absurd (omega arith)
-      by (b ∷ v) h none = refl
-      by (b ∷ v) h (some w) = refl
+  -- what the index has of a listed tag
+  pub column-of-index : (t : ℕ) → columnOf t < columnCount
+      → columnIn (indexOf body) (columnOf t) ≡ column (startIn (placeOf t body)) (lenIn (placeOf t body)) (countOf t (piecesOf body))
+  column-of-index t h = ap (λ (x : List ℕ). columnIn x (columnOf t)) (sym filled) ∙ column-told t h

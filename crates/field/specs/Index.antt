@@ -1,17 +1,15 @@
--- The index of a body: of each listed tag where the value of its first field stands and how often the tag stands, and the scan of step 5.
-use Prim.Native.Nat.{ℕ, suc, min}
-use mathlib.Core.List.{List, [], _∷_, map}
+-- The index of a body, as it is lent: of each listed tag where the value of its first field stands, how long that is and how often the tag stands.
+use Prim.Native.Nat.{ℕ, suc, _+_}
+use mathlib.Core.List.{List, [], _∷_, _++_, map}
 use mathlib.Core.Bool.{cond}
-use lib.ListN.{length, getD, set}
+use lib.ListN.{getD, set}
 use lib.Dec.{eqb, ltb}
-use Rattle.octet.specs.Bytes.{part}
-use Rattle.field.specs.Pieces.{Pieces, piecesOf, valuesOf, textAt, scanOf}
+use Rattle.field.specs.Pieces.{piecesOf, countOf}
 use Rattle.field.specs.Stands.{placeOf}
 use Rattle.field.specs.declared.Place.{Place}
 use Rattle.field.specs.declared.Place.the-variants.{At, Missing}
 use Rattle.field.specs.declared.Piece.{Piece}
 use Rattle.field.specs.declared.Piece.the-variants.{Field, Stray}
-use Rattle.field.specs.declared.Scan.{Scan}
 
 -- the tags that the index keeps, in the order of their columns: those of the header and of the tables
 unfoldable pub listed : List ℕ
@@ -31,7 +29,7 @@ position (t ∷ ts) u = let later = suc (position ts u) in cond (eqb u t) 0 late
 unfoldable pub columnOf : ℕ → ℕ
 columnOf tag = position listed tag
 
--- ---- the index
+-- ---- the index: the starts, the lengths and the counts, each by columns
 
 abbrev pub startIn : Place → ℕ
 startIn Missing = 0
@@ -41,58 +39,33 @@ abbrev pub lenIn : Place → ℕ
 lenIn Missing = 0
 lenIn (At s n) = n
 
--- how often a tag stands, 2 for more than once
-unfoldable pub countOf : ℕ → Pieces → ℕ
-countOf tag ps = min 2 (length (valuesOf tag ps))
-
--- the index of a body, by columns, with the scan of step 5
-pub record Index : Type 0 where
-  pub start : List ℕ
-  pub len : List ℕ
-  pub count : List ℕ
-  pub scan : Scan
-
--- by its scan and its lists, as they are lent
-abbrev pub indexFrom : Scan → List ℕ → List ℕ → List ℕ → Index
-indexFrom scan start len count = record { start = start; len = len; count = count; scan = scan }
-
-unfoldable pub indexOf : List ℕ → Index
+unfoldable pub indexOf : List ℕ → List ℕ
 indexOf body =
-    record {
-      start = map (λ (tag : ℕ). startIn (placeOf tag body)) listed;
-      len = map (λ (tag : ℕ). lenIn (placeOf tag body)) listed;
-      count = map (λ (tag : ℕ). countOf tag (piecesOf body)) listed;
-      scan = scanOf (piecesOf body);
-    }
+    map (λ (tag : ℕ). startIn (placeOf tag body)) listed
+    ++ (map (λ (tag : ℕ). lenIn (placeOf tag body)) listed
+    ++ map (λ (tag : ℕ). countOf tag (piecesOf body)) listed)
 
--- ---- lookups: a listed tag by its column, another by the body
+-- what stands in column k
+abbrev pub startAt : List ℕ → ℕ → ℕ
+startAt x k = getD x k 0
 
-unfoldable pub valueIn : List ℕ → List ℕ → List ℕ → ℕ → List ℕ
-valueIn body start len tag =
-    cond (ltb (columnOf tag) columnCount) (part (getD start (columnOf tag) 0) (getD len (columnOf tag) 0) body) (textAt tag (piecesOf body))
+abbrev pub lenAt : List ℕ → ℕ → ℕ
+lenAt x k = getD x (columnCount + k) 0
 
-unfoldable pub countIn : List ℕ → List ℕ → ℕ → ℕ
-countIn body count tag = cond (ltb (columnOf tag) columnCount) (getD count (columnOf tag) 0) (countOf tag (piecesOf body))
+abbrev pub countAt : List ℕ → ℕ → ℕ
+countAt x k = getD x (columnCount + columnCount + k) 0
 
--- ---- how a pass fills it: one list of each number, by columns
+-- ---- how a pass fills it
 
-pub record Columns : Type 0 where
-  pub start : List ℕ
-  pub len : List ℕ
-  pub count : List ℕ
+-- column k counted as c
+abbrev pub setCount : List ℕ → ℕ → ℕ → List ℕ
+setCount x k c = set x (columnCount + columnCount + k) c
 
-abbrev pub columns : List ℕ → List ℕ → List ℕ → Columns
-columns s n c = record { start = s; len = n; count = c }
-
--- one field more of column k, whose value stands at s and has n bytes
-unfoldable pub notedAt : Columns → ℕ → ℕ → ℕ → Columns
+-- one field more of column k, whose value stands at s and has n bytes: the first is kept, a further one is counted as 2
+unfoldable pub notedAt : List ℕ → ℕ → ℕ → ℕ → List ℕ
 notedAt x k s n =
-    cond (ltb k columnCount)
-    (cond (eqb (getD (x .count) k 0) 0)
-    (columns (set (x .start) k s) (set (x .len) k n) (set (x .count) k 1))
-    (columns (x .start) (x .len) (set (x .count) k 2)))
-    x
+    cond (ltb k columnCount) (cond (eqb (countAt x k) 0) (setCount (set (set x k s) (columnCount + k) n) k 1) (setCount x k 2)) x
 
-unfoldable pub noted : Columns → Piece → Columns
+unfoldable pub noted : List ℕ → Piece → List ℕ
 noted x Stray = x
 noted x (Field u s n) = notedAt x (columnOf u) s n

@@ -1,5 +1,5 @@
 -- The fields of a body: the pieces between `|`s ("Finding a message", last paragraph; steps 1, 2 and 5).
-use Prim.Native.Nat.{ℕ, _+_}
+use Prim.Native.Nat.{ℕ, _+_, min}
 use mathlib.Core.List.{List, [], _∷_}
 use mathlib.Core.Option.{Option, none, some}
 use mathlib.Core.Bool.{Bool, false, cond, _&&_, not}
@@ -65,6 +65,10 @@ has tag v ps = isThat v (firstOf tag ps)
 -- the value of a tag; nothing where it is not there
 abbrev pub textAt : ℕ → Pieces → List ℕ
 textAt tag ps = unless [] (firstOf tag ps)
+
+-- how often a tag stands, 2 for more than once
+unfoldable pub countOf : ℕ → Pieces → ℕ
+countOf tag ps = min 2 (length (valuesOf tag ps))
 
 -- "The body begins `35=`, 1 to 3 bytes, `|`": the type's bytes
 abbrev pub typeIn : Pieces → List ℕ

@@ -48,9 +48,9 @@ stepOf at body = by (untilByte 1 (drop at body))
     by n = record { piece = pieceAt at (part at n body); next = min (at + n + 1) (length body) }
 
 -- the fault of a piece
-abbrev pub faultOf : Piece → Scan
-faultOf Stray = Malformed
-faultOf (Field u s n) = cond (eqb n 0) (Empty u) Sound
+abbrev pub pieceFault : Piece → Scan
+pieceFault Stray = Malformed
+pieceFault (Field u s n) = cond (eqb n 0) (Empty u) Sound
 
 -- whether a piece is of that tag, as 1 or 0
 abbrev pub hits : ℕ → Piece → ℕ

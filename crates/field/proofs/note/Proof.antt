@@ -6,7 +6,7 @@ use Rattle.field.proofs.note.Tie as tie
 
 returns : tie.Need-returns
 unfolding noted
-returns c = let k = c .before .before .before .before in rw (k .before .before .piece .given .1, ← k .column-of .ensures) (c .note-at .ensures)
+returns c = let k = c .before .before in rw (k .before .before .piece .given .1, ← k .column-of .ensures) (c .note-at .ensures)
 
 returns-2 : tie.Need-returns-2
 unfolding noted

@@ -6,12 +6,11 @@ use native.Mathlib.Omega.{arith}
 use lib.ListN.{length}
 use native.Mathlib.Nat.{zero-add}
 use mathlib.Core.List.{List}
-use Rattle.field.specs.Pieces.{piecesOf}
-use Rattle.field.specs.Index.{countOf}
+use Rattle.field.specs.Pieces.{piecesOf, countOf}
 use Rattle.field.specs.declared.Piece.{Piece}
 use Rattle.field.proofs.Cuts.{restAt, Stepped, stepped, rest-end, hitsIn, count-at}
-use Rattle.field.proofs.count.Statement.{statement}
-use Rattle.field.proofs.count.Tie as tie
+use Rattle.field.proofs.count_of.Statement.{statement}
+use Rattle.field.proofs.count_of.Tie as tie
 
 abbrev Inv-loop : tie.InvT-loop
 Inv-loop body tag n₀ i₀ n i = (i ≤ length body) × (n ≤ 2) × (countOf tag (piecesOf body) ≡ min 2 (n + hitsIn tag (restAt body i)))
@@ -43,8 +42,8 @@ returns c =
     let e = p .loop .inv .2 ∙ ap (λ (gs : List Piece). min 2 (p .loop .n + hitsIn (s .tag) gs)) (rest-end (s .body .now) (p .loop .i) (omega arith)) in
     omega (arith, e)
 
-pub count-spec : {M : Type 1} → statement M
-count-spec =
+pub count-of-spec : {M : Type 1} → statement M
+count-of-spec =
     tie.close
     (tie.spec
     Inv-loop

@@ -7,8 +7,8 @@ use native.Mathlib.Omega.{arith}
 use lib.ListN.{length}
 use Rattle.field.specs.Stands.{placeFrom, placeOf}
 use Rattle.field.proofs.Cuts.{restAt, Stepped, stepped, rest-end}
-use Rattle.field.proofs.first.Statement.{statement}
-use Rattle.field.proofs.first.Tie as tie
+use Rattle.field.proofs.place_of.Statement.{statement}
+use Rattle.field.proofs.place_of.Tie as tie
 
 abbrev Inv-loop : tie.InvT-loop
 Inv-loop body tag i₀ i = (i ≤ length body) × (placeOf tag body ≡ placeFrom tag (restAt body i))
@@ -55,8 +55,8 @@ returns-2 c =
     let p = c .before in
     sym (p .loop .inv .1 ∙ rw (rest-end (p .before .before .args .body .now) (p .loop .i) (omega arith)))
 
-pub first-spec : {M : Type 1} → statement M
-first-spec =
+pub place-of-spec : {M : Type 1} → statement M
+place-of-spec =
     tie.close
     (tie.spec
     Inv-loop
