@@ -70,10 +70,6 @@ textAt tag ps = unless [] (firstOf tag ps)
 unfoldable pub countOf : ℕ → Pieces → ℕ
 countOf tag ps = min 2 (length (valuesOf tag ps))
 
--- "The body begins `35=`, 1 to 3 bytes, `|`": the type's bytes
-abbrev pub typeIn : Pieces → List ℕ
-typeIn ps = textAt 35 ps
-
 -- ---- step 5
 
 -- "First malformed field: Reject 0; without a value: Reject 4 with its tag"

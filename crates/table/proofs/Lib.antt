@@ -4,5 +4,4 @@ pub mod Faultless
 pub mod Messages
 pub mod Meets
 pub mod Values
-pub mod IndexLaws
 pub mod Unique

@@ -1,0 +1,29 @@
+-- `table::rows::report_row` meets its contract: each arm knows its place, and the last that the rows have ended.
+use native.Mathlib.Omega.{arith}
+use Rattle.table.specs.Rows.{reportRows}
+use Rattle.table.proofs.Walks.{passed, cell-past}
+use Rattle.table.proofs.rows.report_row.Statement.{statement}
+use Rattle.table.proofs.rows.report_row.Tie as tie
+
+past : tie.Need-returns-15
+past c = let r = c .match .rest in cell-past reportRows (c .before .args .i) (passed 13 (passed 12 (passed 11 (passed 10 (passed 9 (passed 8 (passed 7 (passed 6 (passed 5 (passed 4 (passed 3 (passed 2 (passed 1 (passed 0 (omega arith) (r .0 .0 .0 .0 .0 .0 .0 .0 .0 .0 .0 .0 .0 .1)) (r .0 .0 .0 .0 .0 .0 .0 .0 .0 .0 .0 .0 .1)) (r .0 .0 .0 .0 .0 .0 .0 .0 .0 .0 .0 .1)) (r .0 .0 .0 .0 .0 .0 .0 .0 .0 .0 .1)) (r .0 .0 .0 .0 .0 .0 .0 .0 .0 .1)) (r .0 .0 .0 .0 .0 .0 .0 .0 .1)) (r .0 .0 .0 .0 .0 .0 .0 .1)) (r .0 .0 .0 .0 .0 .0 .1)) (r .0 .0 .0 .0 .0 .1)) (r .0 .0 .0 .0 .1)) (r .0 .0 .0 .1)) (r .0 .0 .1)) (r .0 .1)) (r .1))
+
+pub report-row-spec : {M : Type 1} → statement M
+report-row-spec =
+    tie.close
+    (tie.spec
+    (λ c. rw (c .match .keys1))
+    (λ c. rw (c .match .keys2))
+    (λ c. rw (c .match .keys3))
+    (λ c. rw (c .match .keys4))
+    (λ c. rw (c .match .keys5))
+    (λ c. rw (c .match .keys6))
+    (λ c. rw (c .match .keys7))
+    (λ c. rw (c .match .keys8))
+    (λ c. rw (c .match .keys9))
+    (λ c. rw (c .match .keys10))
+    (λ c. rw (c .match .keys11))
+    (λ c. rw (c .match .keys12))
+    (λ c. rw (c .match .keys13))
+    (λ c. rw (c .match .keys14))
+    past)

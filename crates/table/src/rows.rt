@@ -1,0 +1,185 @@
+// The rows of the tables, as the paper has them, and the kinds of message.
+use super::Cell;
+use super::Codes;
+use super::Form;
+use super::Range;
+use super::Row;
+use super::Where;
+use answer::Kind;
+use answer::Setup;
+ghost use mathlib.Core.Path.{_≡_};
+ghost use lib.ListN.{length};
+ghost use Rattle.table.specs.Rows.{headerRows, reportRows, rowsOf, tableOf, cellOf, kindOf};
+
+// A row of the header and of a report is a constant of its own, so that one is laid out where one is asked for.
+
+// "all: 52 UTC time; optional 43, 97: Y or N".
+const SENT: Row = Row::Needs(52, Form::Time, Where::Always);
+
+const AGAIN: Row = Row::May(43, Form::Code(Codes::YesNo), Where::Always);
+
+const RESENT: Row = Row::May(97, Form::Code(Codes::YesNo), Where::Always);
+
+const HEADER_ROWS: usize = 3;
+
+// 8, "In table order".
+const EXEC_ID: Row = Row::Needs(17, Form::Graph(Range::Of(1, 20)), Where::Always);
+
+const ORDER_ID: Row = Row::Needs(37, Form::Graph(Range::Of(1, 20)), Where::Always);
+
+const TRANSACTION: Row = Row::Needs(20, Form::Code(Codes::New), Where::Always);
+
+const SYMBOL: Row = Row::Needs(55, Form::Graph(Range::Of(1, 8)), Where::Always);
+
+const SIDE: Row = Row::Needs(54, Form::Code(Codes::Side), Where::Always);
+
+const ORDER_QTY: Row = Row::Needs(38, Form::Number(Range::Of(1, 999_999)), Where::Always);
+
+const LAST_SHARES: Row = Row::Needs(32, Form::Number(Range::Of(1, 999_999)), Where::Always);
+
+const LAST_PRICE: Row = Row::Needs(31, Form::Price, Where::Always);
+
+const CUM_QTY: Row = Row::Needs(14, Form::Number(Range::Of(1, 999_999)), Where::Always);
+
+const LEAVES_QTY: Row = Row::Needs(151, Form::Number(Range::Of(0, 999_999)), Where::Always);
+
+const EXEC_TYPE: Row = Row::Needs(150, Form::Code(Codes::Filled), Where::Always);
+
+const STATUS: Row = Row::Needs(39, Form::Text(Range::Any), Where::Always);
+
+const TIME: Row = Row::Needs(60, Form::Time, Where::Always);
+
+const MULTI_LEG: Row = Row::May(442, Form::Code(Codes::Legs), Where::Always);
+
+const REPORT_ROWS: usize = 14;
+
+// A: "98 is 0; 108 is 0 to 3,600; optional 141 is N".
+const LOGON: [Row; 3] = [
+    Row::Needs(98, Form::Number(Range::Of(0, 0)), Where::Always),
+    Row::Needs(108, Form::Number(Range::Of(0, 3_600)), Where::Always),
+    Row::May(141, Form::Code(Codes::No), Where::Always),
+];
+
+// 0: "optional 112, 1 to 32 bytes".
+const HEARTBEAT: [Row; 1] = [Row::May(112, Form::Text(Range::Of(1, 32)), Where::Always)];
+
+// 1: "112, 1 to 32 bytes".
+const TEST: [Row; 1] = [Row::Needs(112, Form::Text(Range::Of(1, 32)), Where::Always)];
+
+// 2: "7 is 1 to O−1; 16 is 0 or at least 7's".
+const RESEND: [Row; 2] = [
+    Row::Needs(7, Form::Number(Range::Written), Where::Always),
+    Row::Needs(16, Form::Number(Range::NoneOrFrom(7)), Where::Always),
+];
+
+// 4: "optional 123: Y or N; 36 is 1 to 999,999,999".
+const RESET: [Row; 2] = [
+    Row::May(123, Form::Code(Codes::YesNo), Where::Always),
+    Row::Needs(36, Form::Number(Range::Of(1, 999_999_999)), Where::Always),
+];
+
+// The row at a place of the header's.
+fn header_row(i: usize) -> Cell
+    ensures { λ r. ⌜ r ≡ cellOf headerRows i ⌝ }
+{
+    match i {
+        0 => Cell::Here(SENT),
+        1 => Cell::Here(AGAIN),
+        2 => Cell::Here(RESENT),
+        _ => Cell::End,
+    }
+}
+
+// The row at a place of a report's.
+fn report_row(i: usize) -> Cell
+    ensures { λ r. ⌜ r ≡ cellOf reportRows i ⌝ }
+{
+    match i {
+        0 => Cell::Here(EXEC_ID),
+        1 => Cell::Here(ORDER_ID),
+        2 => Cell::Here(TRANSACTION),
+        3 => Cell::Here(SYMBOL),
+        4 => Cell::Here(SIDE),
+        5 => Cell::Here(ORDER_QTY),
+        6 => Cell::Here(LAST_SHARES),
+        7 => Cell::Here(LAST_PRICE),
+        8 => Cell::Here(CUM_QTY),
+        9 => Cell::Here(LEAVES_QTY),
+        10 => Cell::Here(EXEC_TYPE),
+        11 => Cell::Here(STATUS),
+        12 => Cell::Here(TIME),
+        13 => Cell::Here(MULTI_LEG),
+        _ => Cell::End,
+    }
+}
+
+// How many rows a type has of its own.
+fn own_rows(kind: Kind) -> usize
+    ensures { λ r. ⌜ r ≡ length (rowsOf kind) ⌝ }
+{
+    match kind {
+        Kind::Logon => LOGON.len(),
+        Kind::Heartbeat => HEARTBEAT.len(),
+        Kind::Test => TEST.len(),
+        Kind::Resend => RESEND.len(),
+        Kind::Reset => RESET.len(),
+        Kind::Logout => 0,
+        Kind::Report => REPORT_ROWS,
+        Kind::Other => 0,
+        Kind::Unlisted => 0,
+    }
+}
+
+// The row at a place of a type's own rows.
+fn own_row(kind: Kind, i: usize) -> Cell
+    ensures { λ r. ⌜ r ≡ cellOf (rowsOf kind) i ⌝ }
+{
+    if own_rows(kind) <= i {
+        return Cell::End;
+    }
+    match kind {
+        Kind::Logon => Cell::Here(LOGON[i]),
+        Kind::Heartbeat => Cell::Here(HEARTBEAT[i]),
+        Kind::Test => Cell::Here(TEST[i]),
+        Kind::Resend => Cell::Here(RESEND[i]),
+        Kind::Reset => Cell::Here(RESET[i]),
+        Kind::Logout => Cell::End,
+        Kind::Report => report_row(i),
+        Kind::Other => Cell::End,
+        Kind::Unlisted => Cell::End,
+    }
+}
+
+// The row at a place of a type's table: the header's rows, then its own.
+pub(crate) fn row_at(setup: Setup, kind: Kind, i: usize) -> Cell
+    ensures { λ r. ⌜ r ≡ cellOf (tableOf setup kind) i ⌝ }
+{
+    if i < HEADER_ROWS {
+        return header_row(i);
+    }
+    own_row(kind, i - HEADER_ROWS)
+}
+
+// The kind of a message, by its type's bytes.
+pub fn kind_of(setup: Setup, t: &[u8]) -> Kind
+    ensures { λ r. ⌜ r ≡ kindOf setup (now (t .entry)) ⌝ }
+{
+    if octet::same(b"UCC", t) {
+        return Kind::Other;
+    }
+    if t.len() != 1 {
+        return Kind::Unlisted;
+    }
+    match t[0] {
+        b'A' => Kind::Logon,
+        b'0' => Kind::Heartbeat,
+        b'1' => Kind::Test,
+        b'2' => Kind::Resend,
+        b'4' => Kind::Reset,
+        b'5' => Kind::Logout,
+        b'8' => Kind::Report,
+        b'3' => Kind::Other,
+        b'j' => Kind::Other,
+        _ => Kind::Unlisted,
+    }
+}
