@@ -48,11 +48,12 @@ use Rattle.receiver.specs.State.{State, woken, Did, quiet, noting, sessionOf, w
 use Rattle.receiver.specs.Calls.{owned, lost, settled, bookingNote, booked, Deed, withRoom, placedFill, ruled, judgedBy, deedOf, carriedOut, framed, foundTo, message, offerOf, offer, beginAgain, acknowledge, isEmpty, newDay, restarted}
 use Rattle.receiver.specs.Receiver.{What, Own-call, Line-lost, Message, Offer, Begin-again, Acknowledge, New-day, Restart, Lent, refuse, shortReply, badGiven, lastNumber, writing, refusalOf, unrefused, unless-refused, does}
 use Rattle.receiver.specs.declared.Answer.{Answer}
-use Rattle.receiver.specs.declared.Answer.the-variants.{Done, Refused, More, Garbled, Framed, Offered, None, Acked, Already, Restarted}
+use Rattle.receiver.specs.declared.Answer.the-variants.{Done, Refused, More, Garbled, Framed, None, Acked, Already}
+use Rattle.promise.specs.Sort.{becameOf, tellsOf}
 use Rattle.promise.specs.World.{isAgain, startsAgain, gave, Shown, showing, anew, linesOf}
-use Rattle.promise.specs.Demand3.{numberBooked, numberTold}
+use Rattle.promise.specs.Demand3.{numberTold}
 use Rattle.promise.proofs.Executions.{none-some, no-snoc, no-empty, lines-append}
-use Rattle.promise.proofs.Chain.{sessional, Says, NoteSays, Tells, Safe}
+use Rattle.promise.proofs.Chain.{Says, NoteSays, Tells, Safe}
 use Rattle.promise.proofs.Unbooked.{settled-unbooked}
 
 -- the marks in order, and what was shown: the lines of the fills from the base to the offered mark
@@ -64,16 +65,7 @@ pub record Stands (st : State) (h : Shown) : Type 0 where
 
 -- whether a call answers that it acknowledged
 abbrev pub isAcked : Answer → Bool
-isAcked Done = false
-isAcked (Refused why) = false
-isAcked More = false
-isAcked (Garbled skip) = false
-isAcked (Framed len outcome) = false
-isAcked Offered = false
-isAcked None = false
-isAcked Acked = true
-isAcked Already = false
-isAcked (Restarted whole) = false
+isAcked a = tellsOf a .acked
 
 pub record Acts (st : State) (w : What) (d : Did) : Type 0 where
   pub notes : NoteSays (st .kept) w (d .next .kept) (d .note)
@@ -135,7 +127,7 @@ leaves-law q e o a b c d h =
     (and-fails (eqb (q .e) e) (eqb (q .o) o) h) in
     rw (up, le-leb (q .e) e a, le-leb (q .o) o c, le-leb e top b, le-leb o top d)
 
-change-says : (st : State) (w : What) (t : Session) → ((n : Note) → sessional n ≡ true → Says w n) → Onward (sessionOf st) t
+change-says : (st : State) (w : What) (t : Session) → ((e o : ℕ) → Says w (Leaves e o)) → Onward (sessionOf st) t
     → NoteSays (st .kept) w (withSession st t .kept) (noteOfChange (sessionOf st) t)
 unfolding noteOfChange after
 change-says st w t says f =
@@ -146,10 +138,10 @@ change-says st w t says f =
       law = leaves-law (st .kept) (t .e) (t .o) (f .e-up) (f .e-most) (f .o-up) (f .o-most) h;
       slotted = tt;
       to = refl;
-      says = says (Leaves (t .e) (t .o)) refl;
+      says = says (t .e) (t .o);
     })
 
-acts-session : (st : State) (w : What) (a : Answer) (t : Session) (reply : List ℕ) → ((n : Note) → sessional n ≡ true → Says w n) → Onward (sessionOf st) t
+acts-session : (st : State) (w : What) (a : Answer) (t : Session) (reply : List ℕ) → ((e o : ℕ) → Says w (Leaves e o)) → Onward (sessionOf st) t
     → anew w a ≡ false → gave a [] ≡ [] → numberTold a ≡ none → isAcked a ≡ false
     → Acts st w (record { answer = a; next = withSession st t; reply = reply; note = noteOfChange (sessionOf st) t; line = [] })
 acts-session st w a t reply says f e g u k =
@@ -164,7 +156,7 @@ acts-session st w a t reply says f e g u k =
 acts-owned : (setup : Setup) (st : State) (time : List ℕ) (own : Own) → st .kept .e ≤ top → st .kept .o ≤ lastNumber → Acts st (Own-call own time) (owned setup st time own)
 unfolding owned
 acts-owned setup st time own a b =
-    acts-session st (Own-call own time) Done (ownCall own (sessionOf st)) _ (λ n h. h)
+    acts-session st (Own-call own time) Done (ownCall own (sessionOf st)) _ (λ e o. record { lent = refl; acks = refl; clears = refl })
     (own-numbers (sessionOf st) b own a)
     refl refl refl refl
 
@@ -183,12 +175,12 @@ some-same : (a b : ℕ) → some a ≡ some b → a ≡ b
 some-same a b h = cc
 
 module _ (setup : Setup) (st : State) (time s : List ℕ) (safe : Safe (st .kept)) (o-most : st .kept .o ≤ lastNumber) where
-  acts-settled : (len : ℕ) (ps : Pieces) (j : Judged) → Onward (sessionOf st) (j .next) → numberBooked (j .outcome) ≡ none
+  acts-settled : (len : ℕ) (ps : Pieces) (j : Judged) → Onward (sessionOf st) (j .next) → becameOf (j .outcome) .booked ≡ none
       → Acts st (Message time s) (settled setup st time len ps j)
   unfolding settled
-  acts-settled len ps j f u = acts-session st (Message time s) (Framed len (j .outcome)) (j .next) _ (λ n h. h) f refl refl u refl
+  acts-settled len ps j f u = acts-session st (Message time s) (Framed len (j .outcome)) (j .next) _ (λ e o. record { lent = refl; acks = refl; clears = refl }) f refl refl u refl
 
-  acts-passed : (len : ℕ) (ps : Pieces) (o : Outcome) → st .kept .e < top → numberBooked o ≡ none → Acts st (Message time s) (settled setup st time len ps (passed o (sessionOf st)))
+  acts-passed : (len : ℕ) (ps : Pieces) (o : Outcome) → st .kept .e < top → becameOf o .booked ≡ none → Acts st (Message time s) (settled setup st time len ps (passed o (sessionOf st)))
   acts-passed len ps o l u = acts-settled len ps (passed o (sessionOf st)) (passed-numbers (sessionOf st) o-most (omega arith) o .onward) u
 
   acts-rejected : (len : ℕ) (ps : Pieces) (n : ℕ) (f : Fault) → st .kept .e < top → Acts st (Message time s) (settled setup st time len ps (rejected (sessionOf st) n f))
@@ -212,7 +204,7 @@ module _ (setup : Setup) (st : State) (time s : List ℕ) (safe : Safe (st .kept
           law = books-law f l (law .lawful) new room;
           slotted = record { wide = law .long; marked = eqb-true (getD f 0 0) fillMark (law .marked) };
           to = refl;
-          says = refl;
+          says = record { lent = refl; acks = refl; clears = refl };
         };
         tells = λ n. (
           (λ h. (f, record { slots = refl; number = sym (some-same (length (q .slots) + 1) n h) ∙ sym more })),
@@ -335,7 +327,7 @@ acts-acked st n h g high = record {
     law = rw (lt-ltb (st .kept .acked) n g, le-leb n (length (st .kept .slots)) (omega arith));
     slotted = tt;
     to = refl;
-    says = refl;
+    says = record { lent = refl; acks = refl; clears = refl };
   };
   tells = tells-none st (noting Acked (Marks n) (keeping st (after (st .kept) (Marks n)))) refl refl;
   acks = λ h. refl;
@@ -387,7 +379,7 @@ acts-day st safe h =
         law = eq-eqb (st .kept .acked) (length (st .kept .slots)) (let z = safe .sound .mark in omega arith);
         slotted = tt;
         to = refl;
-        says = refl;
+        says = record { lent = refl; acks = refl; clears = refl };
       };
       tells = tells-day st (noting Done Clears (woken empty)) refl refl;
       acks = λ h. contrary h refl;
@@ -398,7 +390,7 @@ acts-day st safe h =
 acts-restart : (st : State) (notes : List ℕ) (o : Restarting) → restart notes ≡ o → startsAgain (Restart notes) ≡ false → Acts st (Restart notes) (restarted st o)
 unfolding restarted
 acts-restart st notes (Again q whole) e r = contrary (ap isAgain e) r
-acts-restart st notes (Unlawful at) e r = acts-quiet st (Restart notes) (Refused (refusal.Unlawful at)) r refl refl refl
+acts-restart st notes (Unlawful at) e r = acts-quiet st (Restart notes) (Refused (refusal.Unlawful at)) refl refl refl refl
 
 -- ---- refusals
 
@@ -417,17 +409,6 @@ o-bound b time allowed o h =
     let y = neither refusal.BadTime (badGiven time) _ (x .1) in
     let z = neither refusal.WrongPhase (not allowed) _ (y .1) in
     ltb-false lastNumber o (not-refused refusal.NumbersUsed (ltb lastNumber o) (z .1))
-
-refused-anew : (st : State) (b : Lent) (w : What) (why : Refusal) → refusalOf st b w ≡ some why → anew w (Refused why) ≡ false
-unfolding refusalOf
-refused-anew st b (Own-call own time) why h = refl
-refused-anew st b Line-lost why h = refl
-refused-anew st b (Message time s) why h = refl
-refused-anew st b Offer why h = refl
-refused-anew st b Begin-again why h = none-some why h
-refused-anew st b (Acknowledge n) why h = refl
-refused-anew st b New-day why h = refl
-refused-anew st b (Restart notes) why h = none-some why h
 
 module _ (setup : Setup) where
   acts-unrefused : (st : State) (b : Lent) (w : What) → startsAgain w ≡ false → Safe (st .kept) → st .offered ≤ length (st .kept .slots) → refusalOf st b w ≡ none
@@ -454,7 +435,7 @@ module _ (setup : Setup) where
     where
       go : (o : Option Refusal) → refusalOf st b w ≡ o → Acts st w (unless-refused st o (unrefused setup st w))
       go none e = acts-unrefused st b w r safe high e
-      go (some why) e = acts-quiet st w (Refused why) (refused-anew st b w why e) refl refl refl
+      go (some why) e = acts-quiet st w (Refused why) refl refl refl refl
 
 -- ---- a call without a note
 

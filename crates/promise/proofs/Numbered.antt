@@ -12,33 +12,31 @@ use Rattle.answer.specs.declared.Refusal.the-variants as refusal
 use Rattle.restart.specs.Restart.{Outcome, Again, Unlawful, restart}
 use Rattle.tally.specs.declared.Tally.{Tally}
 use Rattle.receiver.specs.State.{State}
-use Rattle.receiver.specs.Receiver.{What, Own-call, Line-lost, Message, Offer, Begin-again, Acknowledge, New-day, Restart, Lent, refuse, call}
+use Rattle.receiver.specs.Receiver.{What, Lent, refuse, call}
+use Rattle.promise.specs.Sort.{whereGiven, sortOf}
 use Rattle.promise.specs.Demand1.{tooShort, badTime, wrongPhase, numbersUsed, noRoom, notOffered, stillWaiting, unlawfulIn, unlawfulNote, table, firstThere, refusedWith}
-use Rattle.promise.specs.Numbered.{holding, firstRow, numberOf}
+use Rattle.promise.specs.Numbered.{holding, firstRow, columnNo}
 use Rattle.promise.proofs.Refusing.{demand1}
 
 -- a row, and the rows after it
-row : (why : Refusal) (t : Bool) (rest : Option Refusal) (n : Option ℕ) → numberOf rest ≡ n
-    → numberOf (orElse (refuse why t) rest) ≡ cond t (some (refusalNumber why)) n
+row : (why : Refusal) (t : Bool) (rest : Option Refusal) (n : Option ℕ) → columnNo rest ≡ n
+    → columnNo (orElse (refuse why t) rest) ≡ cond t (some (refusalNumber why)) n
 row why true rest n e = refl
 row why false rest n e = e
 
-last-row : (r : Outcome) → numberOf (orElse (unlawfulIn r) none) ≡ cond (not (isNone (unlawfulIn r))) (some 8) none
+last-row : (r : Outcome) → columnNo (orElse (unlawfulIn r) none) ≡ cond (not (isNone (unlawfulIn r))) (some 8) none
 last-row (Again q whole) = refl
 last-row (Unlawful at) = refl
 
-noted : (w : What) → numberOf (orElse (unlawfulNote w) none) ≡ cond (not (isNone (unlawfulNote w))) (some 8) none
-noted (Own-call own time) = refl
-noted Line-lost = refl
-noted (Message time s) = refl
-noted Offer = refl
-noted Begin-again = refl
-noted (Acknowledge n) = refl
-noted New-day = refl
-noted (Restart notes) = last-row (restart notes)
+noted : (w : What) → columnNo (orElse (unlawfulNote w) none) ≡ cond (not (isNone (unlawfulNote w))) (some 8) none
+noted w = go (sortOf w .notes)
+  where
+    go : (o : Option (List ℕ)) → let r = whereGiven none (λ (notes : List ℕ). unlawfulIn (restart notes)) o in columnNo (orElse r none) ≡ cond (not (isNone r)) (some 8) none
+    go none = refl
+    go (some notes) = last-row (restart notes)
 
 module _ (setup : Setup) (st : State) (b : Lent) (t : Tally) (w : What) where
-  rows : numberOf (firstThere (table setup st b w)) ≡ firstRow 1 (holding setup st b w)
+  rows : columnNo (firstThere (table setup st b w)) ≡ firstRow 1 (holding setup st b w)
   rows =
       row refusal.ShortBuffer (tooShort b w) _ _
       (row refusal.BadTime (badTime w) _ _
@@ -48,5 +46,5 @@ module _ (setup : Setup) (st : State) (b : Lent) (t : Tally) (w : What) where
       (row refusal.NotOffered (notOffered st w) _ _
       (row refusal.StillWaiting (stillWaiting st w) _ _ (noted w)))))))
 
-  pub numbered : numberOf (refusedWith (call setup st b t w .did .answer)) ≡ firstRow 1 (holding setup st b w)
-  numbered = ap numberOf (demand1 setup st b t w .first) ∙ rows
+  pub numbered : columnNo (refusedWith (call setup st b t w .did .answer)) ≡ firstRow 1 (holding setup st b w)
+  numbered = ap columnNo (demand1 setup st b t w .first) ∙ rows

@@ -18,10 +18,10 @@ use Rattle.session.specs.declared.Session.{Session}
 use Rattle.session.specs.declared.Judged.{Judged}
 use Rattle.session.specs.declared.Verdict.{Verdict}
 use Rattle.session.specs.declared.Verdict.the-variants.{Settled, Report}
-use Rattle.promise.specs.Demand3.{numberBooked}
+use Rattle.promise.specs.Sort.{becameOf}
 
 abbrev Unbooked : Judged → Type 0
-Unbooked j = numberBooked (j .outcome) ≡ none
+Unbooked j = becameOf (j .outcome) .booked ≡ none
 
 abbrev UnbookedBy : Verdict → Type 0
 UnbookedBy (Settled j) = Unbooked j
@@ -83,6 +83,6 @@ by-number : (s : Session) (m : Facts) (o : Option ℕ) → UnbookedBy (step1 s m
 by-number s m none = refl
 by-number s m (some n) = by-ids s m n (m .ids)
 
-pub settled-unbooked : (setup : Setup) (s : Session) (ps : Pieces) (j : Judged) → judge setup s ps ≡ Settled j → numberBooked (j .outcome) ≡ none
+pub settled-unbooked : (setup : Setup) (s : Session) (ps : Pieces) (j : Judged) → judge setup s ps ≡ Settled j → becameOf (j .outcome) .booked ≡ none
 unfolding judge judgedBy
 settled-unbooked setup s ps j e = subst UnbookedBy e (by-number s (factsIn setup s ps) (factsIn setup s ps .seq))

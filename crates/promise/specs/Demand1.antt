@@ -2,7 +2,7 @@
 use Prim.Native.Nat.{ℕ}
 use mathlib.Core.Path.{_≡_}
 use mathlib.Core.Logic.{_↔_}
-use mathlib.Core.List.{List, [], _∷_}
+use mathlib.Core.List.{List, [], _∷_, _++_}
 use mathlib.Core.Option.{Option, none, some}
 use mathlib.Core.Bool.{Bool, true, false, _&&_, _||_, not}
 use lib.ListN.{length}
@@ -24,86 +24,44 @@ use Rattle.report.specs.declared.Reported.{Reported}
 use Rattle.report.specs.declared.Reported.the-variants as reported
 use Rattle.restart.specs.Restart.{Outcome, Again, Unlawful, restart}
 use Rattle.session.specs.Judging.{judge}
-use Rattle.session.specs.declared.Own.{Own}
-use Rattle.session.specs.declared.Own.the-variants.{Open, Beat, Ask, Close}
 use Rattle.session.specs.declared.Verdict.{Verdict}
 use Rattle.session.specs.declared.Verdict.the-variants as verdict
 use Rattle.tally.specs.declared.Tally.{Tally}
 use Rattle.receiver.specs.State.{State, Did, sessionOf, seen, stored, replyAfter, noteAfter, lineAfter, bookAfter}
-use Rattle.receiver.specs.Receiver.{What, Own-call, Line-lost, Message, Offer, Begin-again, Acknowledge, New-day, Restart, Lent, refuse, call}
+use Rattle.receiver.specs.Receiver.{What, Message, Restart, Lent, refuse, call}
 use Rattle.receiver.specs.declared.State.{State as Stored}
 use Rattle.receiver.specs.declared.Answer.{Answer}
-use Rattle.receiver.specs.declared.Answer.the-variants.{Done, Refused, More, Garbled, Framed, Offered, None, Acked, Already, Restarted}
+use Rattle.promise.specs.Sort.{whereGiven, Buffers, sortOf, tellsOf}
 use Rattle.promise.specs.World.{isRefused}
 use Rattle.promise.specs.Demand2.{Bookable}
 
 -- ---- the column "When", of each call; a row that is none of the call's does not hold
 
 -- "1: reply buffer under 512, note buffer under 102, or line buffer under 128 bytes": of the buffers that the call is lent
+abbrev pub shortOf : Lent → Buffers → Bool
+shortOf b lent = lent .reply && ltb (b .reply) 512 || lent .note && ltb (b .note) 102 || lent .line && ltb (b .line) 128
+
 abbrev pub tooShort : Lent → What → Bool
-tooShort b (Own-call own time) = ltb (b .reply) 512 || ltb (b .note) 102
-tooShort b Line-lost = false
-tooShort b (Message time s) = ltb (b .reply) 512 || ltb (b .note) 102
-tooShort b Offer = ltb (b .line) 128
-tooShort b Begin-again = false
-tooShort b (Acknowledge n) = ltb (b .note) 102
-tooShort b New-day = ltb (b .note) 102
-tooShort b (Restart notes) = false
+tooShort b w = shortOf b (sortOf w .lent)
 
 -- "2: the given time is not a 21-byte UTC time"
 abbrev pub noTime : List ℕ → Bool
 noTime time = not (eqb (length time) 21 && isTime time)
 
 abbrev pub badTime : What → Bool
-badTime (Own-call own time) = noTime time
-badTime Line-lost = false
-badTime (Message time s) = noTime time
-badTime Offer = false
-badTime Begin-again = false
-badTime (Acknowledge n) = false
-badTime New-day = false
-badTime (Restart notes) = false
+badTime w = whereGiven false noTime (sortOf w .time)
 
--- "3: wrong phase; a message needs 1, 2 or 4": the phases that a call may come in
-abbrev pub phasesOfOwn : Own → List ℕ
-phasesOfOwn Open = 0 ∷ 3 ∷ []
-phasesOfOwn Beat = 2 ∷ []
-phasesOfOwn Ask = 2 ∷ []
-phasesOfOwn Close = 2 ∷ []
-
-abbrev pub anyPhase : List ℕ
-anyPhase = 0 ∷ 1 ∷ 2 ∷ 3 ∷ 4 ∷ []
-
-abbrev pub phasesOf : What → List ℕ
-phasesOf (Own-call own time) = phasesOfOwn own
-phasesOf Line-lost = 1 ∷ 2 ∷ 4 ∷ []
-phasesOf (Message time s) = 1 ∷ 2 ∷ 4 ∷ []
-phasesOf Offer = anyPhase
-phasesOf Begin-again = anyPhase
-phasesOf (Acknowledge n) = anyPhase
-phasesOf New-day = 0 ∷ 3 ∷ []
-phasesOf (Restart notes) = anyPhase
-
+-- "3: wrong phase; a message needs 1, 2 or 4"
 abbrev pub among : ℕ → List ℕ → Bool
 among n [] = false
 among n (m ∷ ms) = eqb n m || among n ms
 
 abbrev pub wrongPhase : State → What → Bool
-wrongPhase st w = not (among (phaseNumber (st .phase)) (phasesOf w))
+wrongPhase st w = not (among (phaseNumber (st .phase)) (sortOf w .phases))
 
 -- "4: a call that can write messages, O above 999,999,997"
-abbrev pub canWrite : What → Bool
-canWrite (Own-call own time) = true
-canWrite Line-lost = false
-canWrite (Message time s) = true
-canWrite Offer = false
-canWrite Begin-again = false
-canWrite (Acknowledge n) = false
-canWrite New-day = false
-canWrite (Restart notes) = false
-
 abbrev pub numbersUsed : State → What → Bool
-numbersUsed st w = canWrite w && ltb 999999997 (st .kept .o)
+numbersUsed st w = sortOf w .lent .reply && ltb 999999997 (st .kept .o)
 
 -- "5: no room": a framed report in its turn that would be booked, but for room
 abbrev pub isReport : Verdict → Bool
@@ -126,36 +84,15 @@ crowdedIn setup st s (found.Garbled skip) = false
 crowdedIn setup st s (found.Framed len) = crowded setup st (piecesOf (bodyIn len s))
 
 abbrev pub noRoom : Setup → State → What → Bool
-noRoom setup st (Own-call own time) = false
-noRoom setup st Line-lost = false
-noRoom setup st (Message time s) = crowdedIn setup st s (foundIn s)
-noRoom setup st Offer = false
-noRoom setup st Begin-again = false
-noRoom setup st (Acknowledge n) = false
-noRoom setup st New-day = false
-noRoom setup st (Restart notes) = false
+noRoom setup st w = whereGiven false (λ (s : List ℕ). crowdedIn setup st s (foundIn s)) (sortOf w .message)
 
 -- "6: acknowledge above the offered mark"
 abbrev pub notOffered : State → What → Bool
-notOffered st (Own-call own time) = false
-notOffered st Line-lost = false
-notOffered st (Message time s) = false
-notOffered st Offer = false
-notOffered st Begin-again = false
-notOffered st (Acknowledge n) = ltb (st .offered) n
-notOffered st New-day = false
-notOffered st (Restart notes) = false
+notOffered st w = whereGiven false (ltb (st .offered)) (sortOf w .acks)
 
 -- "7: new day with fills waiting"
 abbrev pub stillWaiting : State → What → Bool
-stillWaiting st (Own-call own time) = false
-stillWaiting st Line-lost = false
-stillWaiting st (Message time s) = false
-stillWaiting st Offer = false
-stillWaiting st Begin-again = false
-stillWaiting st (Acknowledge n) = false
-stillWaiting st New-day = ltb 0 (length (waiting (st .kept)))
-stillWaiting st (Restart notes) = false
+stillWaiting st w = sortOf w .clears && ltb 0 (length (waiting (st .kept)))
 
 -- "8: unlawful note, with its first byte's place, from 0"
 abbrev pub unlawfulIn : Outcome → Option Refusal
@@ -163,24 +100,22 @@ unlawfulIn (Again q whole) = none
 unlawfulIn (Unlawful at) = some (refusal.Unlawful at)
 
 abbrev pub unlawfulNote : What → Option Refusal
-unlawfulNote (Own-call own time) = none
-unlawfulNote Line-lost = none
-unlawfulNote (Message time s) = none
-unlawfulNote Offer = none
-unlawfulNote Begin-again = none
-unlawfulNote (Acknowledge n) = none
-unlawfulNote New-day = none
-unlawfulNote (Restart notes) = unlawfulIn (restart notes)
+unlawfulNote w = whereGiven none (λ (notes : List ℕ). unlawfulIn (restart notes)) (sortOf w .notes)
 
 -- ---- the table: of each row the refusal, where it holds. 9 is of setting up, before there is a state
 
-abbrev pub table : Setup → State → Lent → What → List (Option Refusal)
-table setup st b w =
+abbrev pub above5 : State → Lent → What → List (Option Refusal)
+above5 st b w =
     refuse refusal.ShortBuffer (tooShort b w)
     ∷ refuse refusal.BadTime (badTime w)
     ∷ refuse refusal.WrongPhase (wrongPhase st w)
     ∷ refuse refusal.NumbersUsed (numbersUsed st w)
-    ∷ refuse refusal.NoRoom (noRoom setup st w)
+    ∷ []
+
+abbrev pub table : Setup → State → Lent → What → List (Option Refusal)
+table setup st b w =
+    above5 st b w
+    ++ refuse refusal.NoRoom (noRoom setup st w)
     ∷ refuse refusal.NotOffered (notOffered st w)
     ∷ refuse refusal.StillWaiting (stillWaiting st w)
     ∷ unlawfulNote w
@@ -193,16 +128,7 @@ firstThere (r ∷ rs) = orElse r (firstThere rs)
 
 -- the refusal that a call answers
 abbrev pub refusedWith : Answer → Option Refusal
-refusedWith Done = none
-refusedWith (Refused why) = some why
-refusedWith More = none
-refusedWith (Garbled skip) = none
-refusedWith (Framed len outcome) = none
-refusedWith Offered = none
-refusedWith None = none
-refusedWith Acked = none
-refusedWith Already = none
-refusedWith (Restarted whole) = none
+refusedWith a = tellsOf a .refused
 
 -- ---- "Nothing changes, lent buffers included"
 
@@ -230,7 +156,7 @@ pub record Demand1 (setup : Setup) (st : State) (b : Lent) (t : Tally) (w : What
       → Unchanged s book reply note line (call setup st b t w .did)
   -- "no room" is given exactly for a framed report in its turn that would be booked but for room, where no row above it holds
   pub room : (time s : List ℕ) → w ≡ Message time s → (refusedWith (call setup st b t w .did .answer) ≡ some refusal.NoRoom)
-      ↔ ((firstThere (refuse refusal.ShortBuffer (tooShort b w) ∷ refuse refusal.BadTime (badTime w) ∷ refuse refusal.WrongPhase (wrongPhase st w) ∷ refuse refusal.NumbersUsed (numbersUsed st w) ∷ []) ≡ none)
+      ↔ ((firstThere (above5 st b w) ≡ none)
       × ((len : ℕ) × Bookable setup st s len × (hasRoom (st .kept .slots) (st .kept .orders) (slotIn (piecesOf (bodyIn len s))) ≡ false)))
   -- "unlawful note" exactly where the restart finds one, with its place
   pub note : (notes : List ℕ) (at : ℕ) → w ≡ Restart notes → (refusedWith (call setup st b t w .did .answer) ≡ some (refusal.Unlawful at)) ↔ (restart notes ≡ Unlawful at)

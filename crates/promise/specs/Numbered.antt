@@ -22,6 +22,6 @@ abbrev pub firstRow : ℕ → List Bool → Option ℕ
 firstRow n [] = none
 firstRow n (t ∷ ts) = let rest = firstRow (n + 1) ts in cond t (some n) rest
 
-abbrev pub numberOf : Option Refusal → Option ℕ
-numberOf none = none
-numberOf (some why) = some (refusalNumber why)
+abbrev pub columnNo : Option Refusal → Option ℕ
+columnNo none = none
+columnNo (some why) = some (refusalNumber why)
