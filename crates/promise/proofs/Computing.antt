@@ -44,7 +44,7 @@ unfolding numbers readers.graphChecked readers.textChecked readers.codeChecked v
 values = tt
 
 unfoldable pub framing : Unit {0}
-unfolding finding.skipOf finding.bodyOk finding.judgeWhole finding.judgeLength finding.judgeDigits finding.judge finding.foundBy finding.bodyBy
+unfolding finding.skipOf finding.bodyOk finding.judgeWhole finding.judgeLength finding.judgeDigits finding.judgeOpening finding.foundBy finding.bodyBy
 framing = tt
 
 unfoldable pub fielding : Unit {0}
@@ -52,7 +52,7 @@ unfolding pieces.piecesOf pieces.carries pieces.valuesOf pieces.pieceScan pieces
 fielding = tt
 
 unfoldable pub tables : Unit {0}
-unfolding rows.kindOf steps.badForm steps.inRange steps.fits steps.rowFault steps.walk steps.firstFault steps.faultIn
+unfolding rows.kindOf steps.badForm steps.inRange steps.fits steps.tagFault steps.walk steps.firstFault steps.faultIn
 tables = tt
 
 unfoldable pub wires : Unit {0}
