@@ -1,6 +1,6 @@
 -- The one law of the look-up: by its own index a body is looked at as by its pieces.
 --     look-law, look-by     for the index that a pass leaves
---     first-of     the first field of a tag
+--     first-of, missing-of     the first field of a tag, and whether there is one
 use mathlib.Core.Path.{_≡_, refl, ap, sym, _∙_}
 use mathlib.Core.Bool.{Bool, true, false, cond}
 use mathlib.Core.List.{List, [], _∷_}
@@ -11,7 +11,7 @@ use lib.ListN.{length}
 use lib.Dec.{eqb, ltb}
 use borrow.Author.Tests.{ltb-true, ne-eqb}
 use Rattle.octet.specs.Bytes.{part}
-use Rattle.octet.specs.Maybe.{unless}
+use Rattle.octet.specs.Maybe.{isNone, unless}
 use Rattle.octet.specs.Maybe as maybe
 use Rattle.field.specs.Pieces.{Pieces, piecesOf, valuesOf, firstOf, textAt, countOf}
 use Rattle.field.specs.Stands.{placeOf}
@@ -61,3 +61,11 @@ first-of ps tag = by (valuesOf tag ps)
     by : (vs : Pieces) → cond (eqb (min 2 (length vs)) 0) none (some (unless [] (maybe.first vs))) ≡ maybe.first vs
     by [] = refl
     by (v ∷ vs) = rw (ne-eqb (min 2 (suc (length vs))) 0 (λ z. omega arith))
+
+pub missing-of : (ps : Pieces) (tag : ℕ) → eqb (countOf tag ps) 0 ≡ isNone (firstOf tag ps)
+unfolding countOf
+missing-of ps tag = by (valuesOf tag ps)
+  where
+    by : (vs : Pieces) → eqb (min 2 (length vs)) 0 ≡ isNone (maybe.first vs)
+    by [] = refl
+    by (v ∷ vs) = ne-eqb (min 2 (suc (length vs))) 0 (λ z. omega arith)

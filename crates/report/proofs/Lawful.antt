@@ -15,6 +15,7 @@ use Rattle.value.specs.Value.{priceIn}
 use Rattle.value.proofs.Prices.{price-small}
 use Rattle.value.proofs.Times.{time-is}
 use Rattle.field.specs.Pieces.{Pieces, textAt}
+use Rattle.field.specs.Look.{lookOf}
 use Rattle.answer.specs.declared.Setup.{Setup}
 use Rattle.answer.specs.declared.Phase.{Phase}
 use Rattle.answer.specs.declared.Kind.the-variants as kind
@@ -28,7 +29,7 @@ use Rattle.report.proofs.Kept.{Kept, kept}
 
 -- what a report says of a fill
 abbrev pub fillIn : Pieces → Fill
-fillIn ps = fillOf (λ (tag : ℕ). textAt tag ps)
+fillIn ps = fillOf (lookOf ps)
 
 slot-made : (ps : Pieces) → slotIn ps ≡ slotOf (bodyOf (fillIn ps))
 unfolding slotFor

@@ -8,9 +8,9 @@ use Rattle.report.proofs.keeps_151.Tie as tie
 
 returns : tie.Need-returns
 returns c =
-    let s = c .before .args .sums in
+    let s = c .before .before .args .sums in
     let h : 0 ≡ s .quantity - s .cum = omega arith in
-    ap (eqb (c .before .args .leaves)) h
+    ap (eqb (s .leaves)) h
 
 returns-2 : tie.Need-returns-2
 returns-2 c = search needs
