@@ -22,7 +22,8 @@ use Rattle.octet.specs.Places.{wordAt}
 use Rattle.octet.proofs.Cases.{contrary, le-or-lt, of-cond, cond-true, cond-false, and-no-right, find-here, find-later}
 use Rattle.octet.proofs.Lists.{part-past}
 use Rattle.octet.proofs.Places.{word-differs}
-use Rattle.fill.specs.Slot.{Slot, slotWidth, mostFills, bookWidth, isFill, execOf, orderOf, sharesOf}
+use Rattle.fill.specs.Slot.{Slot, slotWidth, isFill, execOf, orderOf, sharesOf}
+use Rattle.book.specs.Memory.{mostSlots, bookWidth}
 use Rattle.book.specs.Place.{sameExec, sameOrder, sumWhere}
 use Rattle.book.specs.Memory.{slotsIn}
 use Rattle.book.specs.Seeing.{someSlot, Sees, Passes}
@@ -82,19 +83,19 @@ module _ (p : Slot → Bool) (passed : p [] ≡ false) where
       ap (λ (r : ℕ). cond (p (take slotWidth m)) (sharesOf (take slotWidth m)) 0 + r) (sum-past k n (drop slotWidth m) (shorter k m l) (omega arith))
 
   -- so a book's memory is looked at no further than its 512 slots
-  pub find-inside : (n : ℕ) (m : List ℕ) → length m ≡ bookWidth → find p (slotsIn (min n mostFills) m) ≡ find p (slotsIn n m)
+  pub find-inside : (n : ℕ) (m : List ℕ) → length m ≡ bookWidth → find p (slotsIn (min n mostSlots) m) ≡ find p (slotsIn n m)
   find-inside n m l =
       ⊎-elim
-      (λ h. (let e : min n mostFills ≡ n = omega arith in ap (λ (k : ℕ). find p (slotsIn k m)) e))
-      (λ h. (let e : min n mostFills ≡ mostFills = omega arith in ap (λ (k : ℕ). find p (slotsIn k m)) e ∙ sym (find-past mostFills n m (omega arith) (omega arith))))
-      (le-or-lt n mostFills)
+      (λ h. (let e : min n mostSlots ≡ n = omega arith in ap (λ (k : ℕ). find p (slotsIn k m)) e))
+      (λ h. (let e : min n mostSlots ≡ mostSlots = omega arith in ap (λ (k : ℕ). find p (slotsIn k m)) e ∙ sym (find-past mostSlots n m (omega arith) (omega arith))))
+      (le-or-lt n mostSlots)
 
-  pub sum-inside : (n : ℕ) (m : List ℕ) → length m ≡ bookWidth → sumWhere p (slotsIn (min n mostFills) m) ≡ sumWhere p (slotsIn n m)
+  pub sum-inside : (n : ℕ) (m : List ℕ) → length m ≡ bookWidth → sumWhere p (slotsIn (min n mostSlots) m) ≡ sumWhere p (slotsIn n m)
   sum-inside n m l =
       ⊎-elim
-      (λ h. (let e : min n mostFills ≡ n = omega arith in ap (λ (k : ℕ). sumWhere p (slotsIn k m)) e))
-      (λ h. (let e : min n mostFills ≡ mostFills = omega arith in ap (λ (k : ℕ). sumWhere p (slotsIn k m)) e ∙ sym (sum-past mostFills n m (omega arith) (omega arith))))
-      (le-or-lt n mostFills)
+      (λ h. (let e : min n mostSlots ≡ n = omega arith in ap (λ (k : ℕ). sumWhere p (slotsIn k m)) e))
+      (λ h. (let e : min n mostSlots ≡ mostSlots = omega arith in ap (λ (k : ℕ). sumWhere p (slotsIn k m)) e ∙ sym (sum-past mostSlots n m (omega arith) (omega arith))))
+      (le-or-lt n mostSlots)
 
   -- the place of the first that passes, with one slot more before those that were seen
   found-some : (s : Slot) → p s ≡ true → someSlot s ≡ some s
@@ -158,10 +159,10 @@ module _ (f s : Slot) where
         (ap (λ (n : ℕ). n + a .booked) (cond-true (sameOrder f s) (sharesOf s) 0 h ∙ sym e)))
 
 module _ (m : List ℕ) (f : Slot) where
-  pub sees-none : (n : ℕ) → length m ≡ bookWidth → Sees m f (slotsIn (n - n) (drop (n * slotWidth) m)) (record { exec = mostFills; order = mostFills; booked = 0 })
+  pub sees-none : (n : ℕ) → length m ≡ bookWidth → Sees m f (slotsIn (n - n) (drop (n * slotWidth) m)) (record { exec = mostSlots; order = mostSlots; booked = 0 })
   unfolding sumWhere
   sees-none n l =
-      let e : someSlot (part (mostFills * slotWidth) slotWidth m) ≡ none = ap someSlot (part-past (mostFills * slotWidth) slotWidth m (omega arith)) in
+      let e : someSlot (part (mostSlots * slotWidth) slotWidth m) ≡ none = ap someSlot (part-past (mostSlots * slotWidth) slotWidth m (omega arith)) in
       rw (slots-last n n (drop (n * slotWidth) m) (omega arith)) (e, e, refl)
 
   sees-next : (i : ℕ) (ss : List Slot) (a : Seen) → Sees m f ss a
@@ -191,7 +192,7 @@ module _ (m : List ℕ) (f : Slot) where
       subst (λ (ss : List Slot). Sees m f ss a) (sym (slots-first n m)) v
 
   -- over all that are counted
-  pub sees-inside : (n count : ℕ) (a : Seen) → length m ≡ bookWidth → n ≡ min count mostFills → Sees m f (slotsIn n m) a → Sees m f (slotsIn count m) a
+  pub sees-inside : (n count : ℕ) (a : Seen) → length m ≡ bookWidth → n ≡ min count mostSlots → Sees m f (slotsIn n m) a → Sees m f (slotsIn count m) a
   sees-inside n count a l e w =
       let v = subst (λ (k : ℕ). Sees m f (slotsIn k m) a) e w in (
         v .0 ∙ find-inside (sameExec f) (exec-empty f) count m l,

@@ -3,3 +3,4 @@ pub mod Words
 pub mod Finds
 pub mod Placing
 pub mod Unique
+pub mod Orders

@@ -6,23 +6,25 @@
 --     slots-joined     a memory that begins with slots, one after another, has those slots
 --     slots-wide, joined-slots     a memory that has them whole: each is as wide as a slot, and joined they are its front
 --     appended-length     what is written leaves the memory's length
+--     holding-slots, holding-own     a memory with slots laid over it
 use mathlib.Core.Path.{_≡_, refl, sym, ap, ap₂, _∙_}
 use mathlib.Core.List.{List, [], _∷_, _++_, append-assoc}
 use mathlib.Core.Bool.{false}
-use Prim.Native.Nat.{ℕ, zero, suc, _+_, _-_, _*_, _≤_, _<_}
-use native.Mathlib.Nat.{sub-zero, zero-sub, suc-sub-suc, sub-eq-zero-of-le, le-refl}
+use mathlib.Core.Logic.{⊎-elim}
+use Prim.Native.Nat.{ℕ, zero, suc, _+_, _-_, _*_, _≤_, _<_, min}
+use native.Mathlib.Nat.{zero-add, sub-zero, zero-sub, suc-sub-suc, sub-eq-zero-of-le, le-refl}
 use native.Mathlib.Numerals.{add-one}
 use native.Mathlib.Omega.{arith}
-use lib.ListN.{length, take, drop, getD, length-drop}
-use lib.Seq.{length-take-le, take-add, drop-drop, take-take, take-at, drop-at}
+use lib.ListN.{length, take, drop, getD, length-append, length-take, length-drop}
+use lib.Seq.{length-take-le, take-add, drop-drop, take-take, take-at, drop-at, take-all, take-length}
 use lib.Dec.{ltb, eqb}
 use borrow.Author.Tests.{lt-ltb, eq-eqb}
 use Rattle.octet.specs.Bytes.{part, joined}
 use Rattle.octet.specs.Splice.{splice}
-use Rattle.octet.proofs.Cases.{of-cond, and-make, cond-true, cond-false}
-use Rattle.octet.proofs.Lists.{drop-take, splice-read, splice-before, splice-length}
-use Rattle.fill.specs.Slot.{Slot, slotWidth, mostFills, bookWidth}
-use Rattle.book.specs.Memory.{slotsIn, fitsAfter, appended}
+use Rattle.octet.proofs.Cases.{le-or-lt, of-cond, and-make, cond-true, cond-false}
+use Rattle.octet.proofs.Lists.{drop-take, splice-in, splice-read, splice-before, splice-length}
+use Rattle.fill.specs.Slot.{Slot, slotWidth}
+use Rattle.book.specs.Memory.{mostSlots, bookWidth, slotsIn, fitsAfter, appended, holding}
 
 -- the slot at i lies within n of them
 pub slot-within : (n i : ℕ) → i < n → i * slotWidth + slotWidth ≤ n * slotWidth
@@ -95,17 +97,17 @@ slots-same (suc n) m m′ h =
     let q = slots-same n (drop slotWidth m) (drop slotWidth m′) (sym (rest m) ∙ ap (drop slotWidth) h ∙ rest m′) in
     cc
 
-pub appended-in : (m : List ℕ) (count : ℕ) (s : Slot) → count < mostFills → length s ≡ slotWidth → appended m count s ≡ splice m (count * slotWidth) s
+pub appended-in : (m : List ℕ) (count : ℕ) (s : Slot) → count < mostSlots → length s ≡ slotWidth → appended m count s ≡ splice m (count * slotWidth) s
 unfolding appended
 appended-in m count s h e =
-    cond-true _ _ _ (and-make (ltb count mostFills) (eqb (length s) slotWidth) (lt-ltb count mostFills h) (eq-eqb (length s) slotWidth e))
+    cond-true _ _ _ (and-make (ltb count mostSlots) (eqb (length s) slotWidth) (lt-ltb count mostSlots h) (eq-eqb (length s) slotWidth e))
 
 pub appended-out : (m : List ℕ) (count : ℕ) (s : Slot) → fitsAfter count s ≡ false → appended m count s ≡ m
 unfolding appended
 appended-out m count s e = cond-false _ _ _ e
 
 -- a slot written after the last is one slot more
-pub slots-append : (m : List ℕ) (count : ℕ) (s : Slot) → count < mostFills → length s ≡ slotWidth → length m ≡ bookWidth
+pub slots-append : (m : List ℕ) (count : ℕ) (s : Slot) → count < mostSlots → length s ≡ slotWidth → length m ≡ bookWidth
     → slotsIn (count + 1) (appended m count s) ≡ slotsIn count m ++ (s ∷ [])
 slots-append m count s h e l =
     let p = count * slotWidth in
@@ -150,3 +152,35 @@ joined-slots (suc n) m =
     ap (λ (l : List ℕ). take slotWidth m ++ l) (joined-slots n (drop slotWidth m))
     ∙ sym (take-add slotWidth (n * slotWidth) m)
     ∙ ap (λ (k : ℕ). take k m) e
+
+-- ---- a memory with slots laid over it
+pub joined-length : (ss : List Slot) → Wide ss → length (joined ss) ≡ length ss * slotWidth
+joined-length [] none-wide = refl
+joined-length (s ∷ ss) (more-wide h w) = omega (arith, length-append s (joined ss), joined-length ss w)
+
+-- they are read back
+pub holding-slots : (m : List ℕ) (ss : List Slot) → Wide ss → length ss ≤ mostSlots → length m ≡ bookWidth → slotsIn (length ss) (holding m ss) ≡ ss
+holding-slots m ss w few whole =
+    ap (slotsIn (length ss)) (splice-in m 0 (joined ss) (omega (arith, joined-length ss w)))
+    ∙ slots-joined ss (drop (0 + length (joined ss)) m) w
+
+-- a memory holds its own slots
+front-rest : (k : ℕ) (m : List ℕ) → take k m ++ drop (length (take k m)) m ≡ m
+front-rest zero m = refl
+front-rest (suc k) [] = refl
+front-rest (suc k) (b ∷ m) = ap (λ (l : List ℕ). b ∷ l) (front-rest k m)
+
+over-front : (k : ℕ) (m : List ℕ) → splice m 0 (take k m) ≡ m
+over-front k m =
+    splice-in m 0 (take k m) (omega (arith, length-take k m)) ∙ ap (λ (j : ℕ). take k m ++ drop j m) (zero-add (length (take k m))) ∙ front-rest k m
+
+pub holding-own : (m : List ℕ) (n : ℕ) → holding m (slotsIn n m) ≡ m
+holding-own m n = ap (splice m 0) (joined-slots n m) ∙ over-front (n * slotWidth) m
+
+-- the slots past the end of the memory are of no bytes
+pub inside-front : (m : List ℕ) (n k : ℕ) → length m ≡ bookWidth → k ≡ min n mostSlots → take (k * slotWidth) m ≡ take (n * slotWidth) m
+inside-front m n k whole e =
+    ⊎-elim
+    (λ h. (let a : k ≡ n = omega arith in ap (λ (j : ℕ). take (j * slotWidth) m) a))
+    (λ h. (let a : k * slotWidth ≡ length m = omega arith in ap (λ (j : ℕ). take j m) a ∙ take-length m ∙ sym (take-all (n * slotWidth) m (omega arith))))
+    (le-or-lt n mostSlots)

@@ -6,7 +6,7 @@ use mathlib.Core.Bool.{Bool}
 use Rattle.octet.specs.Bytes.{part}
 use Rattle.octet.proofs.Unique.{Answer, one-answer, Writes, one-writing}
 use Rattle.fill.specs.Slot.{Slot, slotWidth}
-use Rattle.book.specs.Memory.{slotsIn, fitsAfter, appended}
+use Rattle.book.specs.Memory.{slotsIn, fitsAfter, appended, holding}
 use Rattle.book.specs.Admitting.{admitOf}
 use Rattle.book.specs.declared.Admitted.{Admitted}
 
@@ -14,9 +14,13 @@ pub slot-at-one : (m : List ℕ) (i : ℕ) {r r′ : List ℕ} → Answer (part 
 slot-at-one m i p q = one-answer p q
 
 module _ (m : List ℕ) (count : ℕ) (s : Slot) where
-  pub admit-one : (orders : ℕ) {r r′ : Admitted} → Answer (admitOf (slotsIn count m) orders s) r → Answer (admitOf (slotsIn count m) orders s) r′ → r ≡ r′
-  admit-one orders p q = one-answer p q
+  pub admit-one : (fills orders : ℕ) {r r′ : Admitted} → Answer (admitOf (slotsIn count m) fills orders s) r → Answer (admitOf (slotsIn count m) fills orders s) r′ → r ≡ r′
+  admit-one fills orders p q = one-answer p q
 
   -- the answer, and what stands in the memory
   pub append-one : {r r′ : Bool} {b b′ : List ℕ} → Writes (fitsAfter count s) (appended m count s) r b → Writes (fitsAfter count s) (appended m count s) r′ b′ → (r ≡ r′) × (b ≡ b′)
   append-one p q = one-writing p q
+
+  -- what stands in the memory, of which m is the other
+  pub put-slots-one : (d : List ℕ) {b b′ : List ℕ} → Answer (holding d (slotsIn count m)) b → Answer (holding d (slotsIn count m)) b′ → b ≡ b′
+  put-slots-one d p q = one-answer p q

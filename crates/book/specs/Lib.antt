@@ -2,3 +2,4 @@ pub mod Place
 pub mod Memory
 pub mod Admitting
 pub mod Seeing
+pub mod Orders

@@ -1,11 +1,28 @@
--- The day's slots in lent memory of any content.
-use Prim.Native.Nat.{ℕ, zero, suc, _*_}
+-- The lent memory, of any content: its regions, and the day's slots in theirs.
+use Prim.Native.Nat.{ℕ, zero, suc, _+_, _*_}
 use mathlib.Core.List.{List, [], _∷_}
 use mathlib.Core.Bool.{Bool, cond, _&&_}
 use lib.ListN.{length, take, drop}
 use lib.Dec.{ltb, eqb}
+use Rattle.octet.specs.Bytes.{joined}
 use Rattle.octet.specs.Splice.{splice}
-use Rattle.fill.specs.Slot.{Slot, slotWidth, mostFills}
+use Rattle.fill.specs.Slot.{Slot, slotWidth}
+
+-- ---- the regions, one after another: the slots at the front, so many of them
+
+abbrev pub mostSlots : ℕ
+mostSlots = 512
+
+abbrev pub slotsAt : ℕ
+slotsAt = 0
+
+abbrev pub slotsWidth : ℕ
+slotsWidth = mostSlots * slotWidth
+
+abbrev pub bookWidth : ℕ
+bookWidth = slotsWidth
+
+-- ---- the slots
 
 -- the first `count` slots of a memory; past its end they are empty
 unfoldable pub slotsIn : ℕ → List ℕ → List Slot
@@ -14,8 +31,12 @@ slotsIn (suc count) m = take slotWidth m ∷ slotsIn count (drop slotWidth m)
 
 -- whether a slot can be written after the last of `count`
 abbrev pub fitsAfter : ℕ → Slot → Bool
-fitsAfter count s = ltb count mostFills && eqb (length s) slotWidth
+fitsAfter count s = ltb count mostSlots && eqb (length s) slotWidth
 
 -- the memory with a slot more after the last of `count`
 unfoldable pub appended : List ℕ → ℕ → Slot → List ℕ
 appended m count s = cond (fitsAfter count s) (splice m (count * slotWidth) s) m
+
+-- the memory with slots laid over it, from the first place on: "Lent bytes past what is written stay"
+abbrev pub holding : List ℕ → List Slot → List ℕ
+holding m ss = splice m slotsAt (joined ss)

@@ -8,7 +8,8 @@ use lib.Dec.{ltb, eqb}
 use Rattle.octet.specs.Bytes.{same}
 use Rattle.octet.specs.Maybe.{find, isNone}
 use Rattle.answer.specs.Numbers.{fault}
-use Rattle.fill.specs.Slot.{Slot, isFill, execOf, orderOf, symbolOf, sideOf, sharesOf, priceOf, cumOf, mostFills}
+use Rattle.fill.specs.Slot.{Slot, isFill, execOf, orderOf, symbolOf, sideOf, sharesOf, priceOf, cumOf}
+use Rattle.book.specs.Memory.{mostSlots}
 use Rattle.book.specs.declared.Placed.{Placed}
 use Rattle.book.specs.declared.Placed.the-variants.{Clash, Already, New}
 
@@ -53,18 +54,25 @@ isNew New = true
 
 -- ---- room: "512 fills, 128 orders"
 
+abbrev pub mostFills : ℕ
+mostFills = 512
+
 abbrev pub mostOrders : ℕ
 mostOrders = 128
 
 unfoldable pub knownOrder : List Slot → Slot → Bool
 knownOrder ss f = not (isNone (find (sameOrder f) ss))
 
--- an order is known by its fills: how many there are. It is counted as fills are booked
+-- how many fills and how many orders there are with a slot more. They are counted as slots are booked; an order is known by its fills
+abbrev pub fillsWith : ℕ → Slot → ℕ
+fillsWith fills f = cond (isFill f) (fills + 1) fills
+
 unfoldable pub ordersWith : List Slot → ℕ → Slot → ℕ
 ordersWith ss orders f = cond (knownOrder ss f) orders (orders + 1)
 
-unfoldable pub hasRoom : List Slot → ℕ → Slot → Bool
-hasRoom ss orders f = ltb (length ss) mostFills && (knownOrder ss f || ltb orders mostOrders)
+-- fills and orders are counted each for itself; a slot is left wherever the counts are those of the slots
+unfoldable pub hasRoom : List Slot → ℕ → ℕ → Slot → Bool
+hasRoom ss fills orders f = ltb (length ss) mostSlots && (ltb fills mostFills && (knownOrder ss f || ltb orders mostOrders))
 
 -- ---- in step
 

@@ -1,15 +1,18 @@
 -- What the walk over the slots of a memory finds, as the private functions say it to one another: no public promise cites this.
-use Prim.Native.Nat.{ℕ, _-_, _*_, _≤_}
+use Prim.Native.Nat.{ℕ, _+_, _-_, _*_, _≤_, min}
 use mathlib.Core.Path.{_≡_}
 use mathlib.Core.List.{List, [], _∷_}
 use mathlib.Core.Option.{Option, none, some}
+use mathlib.Core.Bool.{Bool, cond, not, _&&_, _||_}
 use lib.ListN.{drop}
+use lib.Dec.{ltb}
 use Rattle.octet.specs.Bytes.{part}
-use Rattle.octet.specs.Maybe.{find}
+use Rattle.octet.specs.Maybe.{find, isNone}
 use Rattle.octet.specs.Places.{wordAt}
-use Rattle.fill.specs.Slot.{Slot, slotWidth, execOf, orderOf}
-use Rattle.book.specs.Place.{sameExec, sameOrder, sumWhere}
-use Rattle.book.specs.Memory.{slotsIn}
+use Rattle.fill.specs.Slot.{Slot, slotWidth, execOf, orderOf, sharesOf}
+use Rattle.answer.specs.Numbers.{largest}
+use Rattle.book.specs.Place.{sameExec, sameOrder, sumWhere, mostFills, mostOrders}
+use Rattle.book.specs.Memory.{slotsIn, mostSlots}
 use Rattle.book.specs.declared.Seen.{Seen}
 use Rattle.book.specs.declared.Glance.{Glance}
 
@@ -31,3 +34,22 @@ abbrev pub Passes : List ℕ → Glance → Glance → ℕ → ℕ → Type 0
 Passes m exec order n r =
     (f : Slot) (all : ℕ) (seen : Seen) → n ≤ all → exec .word ≡ wordAt (exec .at) (execOf f) → order .word ≡ wordAt (order .at) (orderOf f)
     → Sees m f (slotsIn (all - n) (drop (n * slotWidth) m)) seen → Sees m f (slotsIn (all - r) (drop (r * slotWidth) m)) seen
+
+-- what is seen with the slot s, at place i, looked at: for the ExecID of f, and for its order
+abbrev pub seenExec : Seen → Slot → Slot → ℕ → Seen
+seenExec seen f s i = record { exec = cond (sameExec f s) i (seen .exec); order = seen .order; booked = seen .booked }
+
+abbrev pub seenOrder : Seen → Slot → Slot → ℕ → Seen
+seenOrder seen f s i = record {
+  exec = seen .exec;
+  order = cond (sameOrder f s) i (seen .order);
+  booked = cond (sameOrder f s) (sharesOf s) 0 + seen .booked;
+}
+
+-- room, and the count of orders, where `known` is the first fill of the order, or no bytes
+abbrev pub roomFor : ℕ → ℕ → ℕ → Slot → Bool
+roomFor last fills orders known =
+    ltb last mostSlots && (ltb fills mostFills && (not (isNone (someSlot known)) || ltb orders mostOrders))
+
+abbrev pub ordersFor : ℕ → Slot → ℕ
+ordersFor orders known = min (cond (not (isNone (someSlot known))) orders (orders + 1)) largest

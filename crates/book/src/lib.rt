@@ -1,25 +1,23 @@
 // The day's fills, in memory that the caller lends whole, with their counts by value: what becomes of a fill among them, by one
 // walk over them, and one fill more.
 ghost use mathlib.Core.Path.{_≡_};
-ghost use mathlib.Core.Bool.{cond, not, _&&_, _||_};
+ghost use mathlib.Core.Bool.{cond};
 ghost use mathlib.Core.List.{List};
-ghost use Prim.Native.Nat.{_+_, _-_, _*_, _≤_, min};
+ghost use Prim.Native.Nat.{_+_, _-_, _*_, _≤_, _<_, min};
 ghost use lib.ListN.{length};
-ghost use lib.Dec.{ltb, eqb};
+ghost use lib.Dec.{eqb};
 ghost use Rattle.octet.specs.Bytes.{same, part};
-ghost use Rattle.octet.specs.Maybe.{find, isNone};
+ghost use Rattle.octet.specs.Maybe.{find};
 ghost use Rattle.octet.specs.Places.{wordAt};
 ghost use Rattle.answer.specs.Numbers.{fault, largest};
-ghost use Rattle.fill.specs.Slot.{Slot, slotWidth, mostFills, bookWidth, execOf, orderOf, sharesOf, cumOf};
-ghost use Rattle.book.specs.Place.{sameContents, sameExec, sameOrder, byOrder, byExec, mostOrders, carried};
-ghost use Rattle.book.specs.Memory.{slotsIn, fitsAfter, appended};
+ghost use Rattle.fill.specs.Slot.{Slot, slotWidth, execOf, orderOf, sharesOf, cumOf};
+ghost use Rattle.book.specs.Place.{sameContents, sameExec, sameOrder, byOrder, byExec, fillsWith, carried};
+ghost use Rattle.book.specs.Memory.{mostSlots, bookWidth, slotsIn, fitsAfter, appended, holding};
 ghost use Rattle.book.specs.declared.Placed.the-variants.{Clash};
 ghost use Rattle.book.specs.Admitting.{admitOf};
-ghost use Rattle.book.specs.Seeing.{someSlot, Sees, Passes};
+ghost use Rattle.book.specs.Seeing.{someSlot, Sees, Passes, seenExec, seenOrder, roomFor, ordersFor};
 use answer::Fault;
-use answer::LARGEST;
-use fill::BOOK;
-use fill::FILLS;
+use answer::tags;
 use fill::ID;
 use fill::SLOT;
 
@@ -30,8 +28,9 @@ pub enum Placed {
     New,
 }
 
-// What a booking changes and answers: how many orders there are then, and whether the fill is in step.
+// What a booking changes and answers: how many fills and orders there are then, and whether the fill is in step.
 pub struct Booking {
+    pub fills: u32,
     pub orders: u32,
     pub stepped: bool,
 }
@@ -45,7 +44,7 @@ pub enum Admitted {
     New(Booking),
 }
 
-// What a walk has seen of a fill: the places of the first slot with its ExecID and of the first of its order, FILLS where there
+// What a walk has seen of a fill: the places of the first slot with its ExecID and of the first of its order, SLOTS where there
 // is none, and the order's booked sum.
 struct Seen {
     exec: usize,
@@ -59,14 +58,26 @@ struct Glance {
     word: u64,
 }
 
+// The lent memory is regions, one after another. Today there is one, of slots: each is read and written through the functions
+// below.
+pub const SLOTS: usize = 512;
+
+const SLOTS_AT: usize = 0;
+
+const SLOTS_SIZE: usize = SLOTS * SLOT;
+
+pub const BOOK: usize = SLOTS_SIZE;
+
 // "512 fills, 128 orders".
-const MOST_ORDERS: u32 = 128;
+const FILLS: u32 = 512;
+
+const ORDERS: u32 = 128;
 
 // How many of count slots lie in the memory: those past its end are empty, and no search looks for one.
 fn inside(count: usize) -> usize
-    ensures { λ r. ⌜ r ≡ min count mostFills ⌝ }
+    ensures { λ r. ⌜ r ≡ min count mostSlots ⌝ }
 {
-    if count < FILLS { count } else { FILLS }
+    if count < SLOTS { count } else { SLOTS }
 }
 
 fn wide(n: u32) -> u64
@@ -136,7 +147,7 @@ fn same_order(slot: &[u8], s: &[u8]) -> bool
 // The slot s at place i is looked at for the ExecID of slot, of which g is the glance.
 fn see_exec(seen: Seen, g: Glance, slot: &[u8], s: &[u8], i: usize) -> Seen
     requires { ⌜ g .word ≡ wordAt (g .at) (execOf (now slot)) ⌝ }
-    ensures { λ r. ⌜ r ≡ record { exec = cond (sameExec (now (slot .entry)) (now (s .entry))) i (seen .exec); order = seen .order; booked = seen .booked } ⌝ }
+    ensures { λ r. ⌜ r ≡ seenExec seen (now (slot .entry)) (now (s .entry)) i ⌝ }
 {
     if octet::word_at(fill::exec_of(s), g.at) != g.word {
         return seen;
@@ -153,8 +164,8 @@ fn see_exec(seen: Seen, g: Glance, slot: &[u8], s: &[u8], i: usize) -> Seen
 
 // The same for its order, with LastShares.
 fn see_order(seen: Seen, g: Glance, slot: &[u8], s: &[u8], i: usize) -> Seen
-    requires { ⌜ (g .word ≡ wordAt (g .at) (orderOf (now slot))) × (seen .booked ≤ mostFills * largest) ⌝ }
-    ensures { λ r. ⌜ (r ≡ record { exec = seen .exec; order = cond (sameOrder (now (slot .entry)) (now (s .entry))) i (seen .order); booked = cond (sameOrder (now (slot .entry)) (now (s .entry))) (sharesOf (now (s .entry))) 0 + seen .booked }) × (r .booked ≤ seen .booked + largest) ⌝ }
+    requires { ⌜ (g .word ≡ wordAt (g .at) (orderOf (now slot))) × (seen .booked ≤ mostSlots * largest) ⌝ }
+    ensures { λ r. ⌜ (r ≡ seenOrder seen (now (slot .entry)) (now (s .entry)) i) × (r .booked ≤ seen .booked + largest) ⌝ }
 {
     if octet::word_at(fill::order_of(s), g.at) != g.word {
         return seen;
@@ -172,7 +183,7 @@ fn see_order(seen: Seen, g: Glance, slot: &[u8], s: &[u8], i: usize) -> Seen
 // How many of n slots are left when those at the end that differ from both IDs at a glance are passed over. A report's time goes
 // here: nothing but the two comparisons stands in the loop.
 fn pass_over(m: &[u8], n: usize, exec: Glance, order: Glance) -> usize
-    requires { ⌜ (n ≤ mostFills) × (length (now m) ≡ bookWidth) ⌝ }
+    requires { ⌜ (n ≤ mostSlots) × (length (now m) ≡ bookWidth) ⌝ }
     ensures { λ r. ⌜ (r ≤ n) × Passes (now (m .entry)) exec order n r ⌝ }
 {
     let mut i = n;
@@ -192,14 +203,14 @@ fn pass_over(m: &[u8], n: usize, exec: Glance, order: Glance) -> usize
 
 // The one walk over the slots: n of them, from the last to the first, so that the first that is found is the last that is noted.
 fn walk(m: &[u8], n: usize, slot: &[u8]) -> Seen
-    requires { ⌜ (n ≤ mostFills) × (length (now m) ≡ bookWidth) ⌝ }
-    ensures { λ r. ⌜ Sees (now (m .entry)) (now (slot .entry)) (slotsIn n (now (m .entry))) r × (r .booked ≤ mostFills * largest) ⌝ }
+    requires { ⌜ (n ≤ mostSlots) × (length (now m) ≡ bookWidth) ⌝ }
+    ensures { λ r. ⌜ Sees (now (m .entry)) (now (slot .entry)) (slotsIn n (now (m .entry))) r × (r .booked ≤ mostSlots * largest) ⌝ }
 {
     let exec = glance_at(fill::exec_of(slot));
     let order = glance_at(fill::order_of(slot));
     let mut seen = Seen {
-        exec: FILLS,
-        order: FILLS,
+        exec: SLOTS,
+        order: SLOTS,
         booked: 0,
     };
     let mut i = pass_over(m, n, exec, order);
@@ -214,7 +225,7 @@ fn walk(m: &[u8], n: usize, slot: &[u8]) -> Seen
 
 // The same of all that are counted.
 fn look(book: &[u8; BOOK], count: usize, slot: &[u8]) -> Seen
-    ensures { λ r. ⌜ Sees (now (book .entry)) (now (slot .entry)) (slotsIn count (now (book .entry))) r × (r .booked ≤ mostFills * largest) ⌝ }
+    ensures { λ r. ⌜ Sees (now (book .entry)) (now (slot .entry)) (slotsIn count (now (book .entry))) r × (r .booked ≤ mostSlots * largest) ⌝ }
 {
     walk(book, inside(count), slot)
 }
@@ -242,11 +253,7 @@ fn same_contents(a: &[u8], b: &[u8]) -> bool
 fn clash(tag: u32) -> Placed
     ensures { λ r. ⌜ r ≡ Clash (fault 5 tag) ⌝ }
 {
-    Placed::Clash(Fault {
-        reason: 5,
-        tag,
-        at: 0,
-    })
+    Placed::Clash(Fault::of(5, tag))
 }
 
 // "OrderID known with another symbol: tag 55; another side: tag 54". known has no bytes where the order is not known.
@@ -257,10 +264,10 @@ fn by_order(slot: &[u8], known: &[u8]) -> Placed
         return Placed::New;
     }
     if !octet::same(fill::symbol_of(slot), fill::symbol_of(known)) {
-        return clash(55);
+        return clash(tags::SYMBOL);
     }
     if fill::side_of(slot) != fill::side_of(known) {
-        return clash(54);
+        return clash(tags::SIDE);
     }
     Placed::New
 }
@@ -276,33 +283,43 @@ fn by_exec(slot: &[u8], twin: &[u8], known: &[u8]) -> Placed
     if same_contents(slot, twin) {
         return Placed::Already;
     }
-    clash(17)
+    clash(tags::EXEC_ID)
 }
 
-// "Then room: 512 fills, 128 orders".
-fn has_room(count: usize, orders: u32, known: &[u8]) -> bool
-    ensures { λ r. ⌜ r ≡ ltb count mostFills && (not (isNone (someSlot (now (known .entry)))) || ltb orders mostOrders) ⌝ }
+// "Then room: 512 fills, 128 orders", with a slot for one more after the last.
+fn has_room(last: usize, fills: u32, orders: u32, known: &[u8]) -> bool
+    ensures { λ r. ⌜ r ≡ roomFor last fills orders (now (known .entry)) ⌝ }
 {
-    if FILLS <= count {
+    if SLOTS <= last {
         return false;
     }
-    if orders < MOST_ORDERS {
+    if FILLS <= fills {
+        return false;
+    }
+    if orders < ORDERS {
         return true;
     }
     known.len() != 0
 }
 
-// How many orders there are with one more fill, of which known is the first of its order; the count stops at the largest.
-fn counted(orders: u32, known: &[u8]) -> u32
-    ensures { λ r. ⌜ r ≡ min (cond (not (isNone (someSlot (now (known .entry))))) orders (orders + 1)) largest ⌝ }
+// How many fills there are with one more slot.
+fn fills_with(fills: u32, slot: &[u8]) -> u32
+    ensures { λ r. ⌜ r ≡ min (fillsWith fills (now (slot .entry))) largest ⌝ }
+{
+    if fill::is_fill(slot) {
+        return answer::count_on(fills, 1);
+    }
+    fills
+}
+
+// How many orders there are with one more fill, of which known is the first of its order.
+fn orders_with(orders: u32, known: &[u8]) -> u32
+    ensures { λ r. ⌜ r ≡ ordersFor orders (now (known .entry)) ⌝ }
 {
     if known.len() != 0 {
         return orders;
     }
-    if orders < LARGEST {
-        return orders + 1;
-    }
-    orders
+    answer::count_on(orders, 1)
 }
 
 // "CumQty less LastShares"; 0 where that is the greater.
@@ -329,7 +346,7 @@ fn carried_in(slot: &[u8], known: &[u8]) -> u32
 
 // "when CumQty is carried-in plus booked sum, this fill included".
 fn in_step(slot: &[u8], known: &[u8], booked: u64) -> bool
-    requires { ⌜ booked ≤ mostFills * largest ⌝ }
+    requires { ⌜ booked ≤ mostSlots * largest ⌝ }
     ensures { λ r. ⌜ r ≡ eqb (cumOf (now (slot .entry))) (carried (now (slot .entry)) (someSlot (now (known .entry))) + (booked + sharesOf (now (slot .entry)))) ⌝ }
 {
     let carried = wide(carried_in(slot, known));
@@ -337,46 +354,66 @@ fn in_step(slot: &[u8], known: &[u8], booked: u64) -> bool
     wide(fill::cum_of(slot)) == carried + sum
 }
 
-// What becomes of a fill among the day's, by one walk over them.
-pub fn admit(book: &[u8; BOOK], count: usize, orders: u32, slot: &[u8]) -> Admitted
-    ensures { λ r. ⌜ r ≡ admitOf (slotsIn count (now (book .entry))) orders (now (slot .entry)) ⌝ }
+// What becomes of a fill among the day's, by one walk over them. last is the last number given, as many slots there are.
+pub fn admit(book: &[u8; BOOK], last: usize, fills: u32, orders: u32, slot: &[u8]) -> Admitted
+    ensures { λ r. ⌜ r ≡ admitOf (slotsIn last (now (book .entry))) fills orders (now (slot .entry)) ⌝ }
 {
-    let seen = look(book, count, slot);
+    let seen = look(book, last, slot);
     let known = slot_at(book, seen.order);
     match by_exec(slot, slot_at(book, seen.exec), known) {
         Placed::Clash(f) => Admitted::Clash(f),
         Placed::Already => Admitted::Already,
         Placed::New => {
-            if !has_room(count, orders, known) {
+            if !has_room(last, fills, orders, known) {
                 return Admitted::Full;
             }
             Admitted::New(Booking {
-                orders: counted(orders, known),
+                fills: fills_with(fills, slot),
+                orders: orders_with(orders, known),
                 stepped: in_step(slot, known, seen.booked),
             })
         }
     }
 }
 
-// Writes a slot after the last of count. Where there is no room, or it is no slot, nothing changes, and the answer is false.
-pub fn append(book: &mut [u8; BOOK], count: usize, slot: &[u8]) -> bool
-    ensures { λ r. ⌜ (r ≡ fitsAfter count (now (slot .entry))) × (now (book .exit) ≡ appended (now (book .entry)) count (now (slot .entry))) ⌝ }
+// Where the i-th slot stands.
+fn place_of(i: usize) -> usize
+    requires { ⌜ i < mostSlots ⌝ }
+    ensures { λ r. ⌜ r ≡ i * slotWidth ⌝ }
 {
-    if FILLS <= count {
-        return false;
-    }
-    if slot.len() != SLOT {
-        return false;
-    }
-    octet::copy_into(book, count * SLOT, slot)
+    SLOTS_AT + i * SLOT
 }
 
 // The i-th slot of the memory, from 0; no bytes past its end.
 pub fn slot_at(book: &[u8; BOOK], i: usize) -> &[u8]
     ensures { λ r. ⌜ now r ≡ part (i * slotWidth) slotWidth (now (book .entry)) ⌝ }
 {
-    if FILLS <= i {
+    if SLOTS <= i {
         return octet::part(book, BOOK, 0);
     }
-    octet::part(book, i * SLOT, SLOT)
+    octet::part(book, place_of(i), SLOT)
+}
+
+// Writes a slot after the last of count. Where there is no room, or it is no slot, nothing changes, and the answer is false.
+pub fn append(book: &mut [u8; BOOK], count: usize, slot: &[u8]) -> bool
+    ensures { λ r. ⌜ (r ≡ fitsAfter count (now (slot .entry))) × (now (book .exit) ≡ appended (now (book .entry)) count (now (slot .entry))) ⌝ }
+{
+    if SLOTS <= count {
+        return false;
+    }
+    if slot.len() != SLOT {
+        return false;
+    }
+    octet::copy_into(book, place_of(count), slot)
+}
+
+// Puts the first count slots of another memory into this one; past them it stays.
+pub fn put_slots(book: &mut [u8; BOOK], count: usize, from: &[u8; BOOK])
+    ensures { λ r. ⌜ now (book .exit) ≡ holding (now (book .entry)) (slotsIn count (now (from .entry))) ⌝ }
+{
+    octet::copy_into(
+        book,
+        SLOTS_AT,
+        octet::part(from, SLOTS_AT, inside(count) * SLOT),
+    );
 }

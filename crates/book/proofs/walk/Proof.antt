@@ -6,7 +6,8 @@ use Prim.Native.Nat.{_-_, _*_, _≤_}
 use Rattle.octet.specs.Places.{wordAt}
 use Rattle.octet.proofs.Lists.{part-sized}
 use Rattle.answer.specs.Numbers.{largest}
-use Rattle.fill.specs.Slot.{slotWidth, mostFills}
+use Rattle.fill.specs.Slot.{slotWidth}
+use Rattle.book.specs.Memory.{mostSlots}
 use Rattle.book.specs.Memory.{slotsIn}
 use Rattle.book.specs.Seeing.{Sees}
 use Rattle.book.specs.declared.Seen.{Seen}
@@ -27,7 +28,7 @@ loop-holds c =
     let x = c .before .before .before .glance-at .ensures ∙ ap (wordAt _) (c .before .before .before .before .exec-of .ensures) in
     let y = c .before .glance-at2 .ensures ∙ ap (wordAt _) (c .before .before .order-of .ensures) in
     let f = now (a .slot) in
-    (c .pass-over .ensures .1 f (a .n) (record { exec = mostFills; order = mostFills; booked = 0 }) (omega arith) x y (sees-none (now (a .m)) f (a .n) (omega arith)), omega arith, omega arith)
+    (c .pass-over .ensures .1 f (a .n) (record { exec = mostSlots; order = mostSlots; booked = 0 }) (omega arith) x y (sees-none (now (a .m)) f (a .n) (omega arith)), omega arith, omega arith)
 
 see-exec-requires : tie.Need-see-exec-requires Inv-loop μ-loop
 see-exec-requires c κs = c .before .before .before .before .before .before .glance-at .ensures ∙ ap (wordAt _) (c .before .before .before .before .before .before .before .exec-of .ensures)
@@ -36,7 +37,7 @@ see-order-requires : tie.Need-see-order-requires Inv-loop μ-loop
 see-order-requires c κs =
     let h = c .before .before .before in
     let a = c .before .before .before .before .before .before .before .before .before .before .before .args in
-    let few : a .n ≤ mostFills = c .before .before .before .before .before .before .before .before .before .before .before .pre .0 in
+    let few : a .n ≤ mostSlots = c .before .before .before .before .before .before .before .before .before .before .before .pre .0 in
     let most : h .loop .seen .booked ≤ (a .n - h .loop .i) * largest = h .loop .inv .1 in
     let left : h .loop .i ≤ a .n = h .loop .inv .2 in
     let e : c .see-exec .result .booked ≡ h .loop .seen .booked = ap (λ (x : Seen). x .booked) (c .see-exec .ensures) in
@@ -47,7 +48,7 @@ loop-again c =
     let h = c .before .before .before .before .before in
     let a = c .before .before .before .before .before .before .before .before .before .before .before .before .before .args in
     let i = h .loop .i - 1 in
-    let few : a .n ≤ mostFills = c .before .before .before .before .before .before .before .before .before .before .before .before .before .pre .0 in
+    let few : a .n ≤ mostSlots = c .before .before .before .before .before .before .before .before .before .before .before .before .before .pre .0 in
     let most : h .loop .seen .booked ≤ (a .n - h .loop .i) * largest = h .loop .inv .1 in
     let left : h .loop .i ≤ a .n = h .loop .inv .2 in
     let m = now (a .m) in
@@ -62,7 +63,7 @@ returns : tie.Need-returns Inv-loop μ-loop
 returns c =
     let h = c .before in
     let a = c .before .before .before .before .before .before .before .before .before .args in
-    let few : a .n ≤ mostFills = c .before .before .before .before .before .before .before .before .before .pre .0 in
+    let few : a .n ≤ mostSlots = c .before .before .before .before .before .before .before .before .before .pre .0 in
     let most : h .loop .seen .booked ≤ (a .n - h .loop .i) * largest = h .loop .inv .1 in
     let left : h .loop .i ≤ a .n = h .loop .inv .2 in
     (sees-done (now (a .m)) (now (a .slot)) (a .n) (h .loop .i) (h .loop .seen) (omega arith) (h .loop .inv .0), omega arith)

@@ -1,0 +1,113 @@
+-- The day's orders as a list, and the fills among the slots: what the counts by value count.
+--     among-known     an order is known exactly where its OrderID is among those of the slots
+--     orders-more     a fill more: the same list, or its OrderID at the end
+--     orders-counted     so the count that is kept is its length, with one fill more
+--     fills-counted     and the count of fills that of the slots that are fills
+--     fills-most     they are at most as many as there are slots
+use mathlib.Core.Path.{_≡_, refl, sym, ap, ap₂, _∙_}
+use mathlib.Core.List.{List, [], _∷_, _++_}
+use mathlib.Core.Option.{some}
+use mathlib.Core.Bool.{Bool, true, false, cond, _&&_, _||_, not}
+use Prim.Native.Nat.{ℕ, _+_, _≤_}
+use native.Mathlib.Omega.{arith}
+use lib.ListN.{length, length-append}
+use Rattle.octet.specs.Bytes.{same}
+use Rattle.octet.specs.Maybe.{find, isNone}
+use Rattle.octet.proofs.Cases.{of-cond}
+use Rattle.octet.proofs.Lists.{same-true}
+use Rattle.fill.specs.Slot.{Slot, isFill, orderOf}
+use Rattle.book.specs.Place.{sameOrder, knownOrder, fillsWith, ordersWith}
+use Rattle.book.specs.Orders.{isAmong, withOrder, ordersAfter, ordersOf, fillsAfter, fillsOf}
+
+or-assoc : (a b c : Bool) → (a || b) || c ≡ a || (b || c)
+or-assoc true b c = refl
+or-assoc false b c = refl
+
+or-false : (a : Bool) → a || false ≡ a
+or-false true = refl
+or-false false = refl
+
+or-absorbs : (a b : Bool) → (b ≡ true → a ≡ true) → a ≡ a || b
+or-absorbs true b h = refl
+or-absorbs false true h = h refl
+or-absorbs false false h = refl
+
+among-end : (x : List ℕ) (ids : List (List ℕ)) (y : List ℕ) → isAmong x (ids ++ (y ∷ [])) ≡ isAmong x ids || same x y
+among-end x [] y = or-false (same x y)
+among-end x (i ∷ ids) y = ap (λ (b : Bool). same x i || b) (among-end x ids y) ∙ sym (or-assoc (same x i) (isAmong x ids) (same x y))
+
+-- one slot more: its OrderID, where it is a fill, and those that were there
+among-with : (x : List ℕ) (ids : List (List ℕ)) (s : Slot) → isAmong x (withOrder ids s) ≡ isAmong x ids || (isFill s && same x (orderOf s))
+unfolding withOrder
+among-with x ids s = by (isFill s) (isAmong (orderOf s) ids) refl
+  where
+    by : (fill there : Bool) → isAmong (orderOf s) ids ≡ there
+        → isAmong x (cond (fill && not there) (ids ++ (orderOf s ∷ [])) ids) ≡ isAmong x ids || (fill && same x (orderOf s))
+    by false there e = sym (or-false (isAmong x ids))
+    by true false e = among-end x ids (orderOf s)
+    by true true e = or-absorbs (isAmong x ids) (same x (orderOf s)) (λ h. ap (λ (y : List ℕ). isAmong y ids) (same-true x (orderOf s) h) ∙ e)
+
+known-cons : (s : Slot) (ss : List Slot) (f : Slot) → knownOrder (s ∷ ss) f ≡ (isFill s && same (orderOf f) (orderOf s)) || knownOrder ss f
+unfolding knownOrder sameOrder
+known-cons s ss f = by (isFill s && same (orderOf f) (orderOf s))
+  where
+    by : (b : Bool) → not (isNone (cond b (some s) (find (sameOrder f) ss))) ≡ b || not (isNone (find (sameOrder f) ss))
+    by true = refl
+    by false = refl
+
+among-after : (ids : List (List ℕ)) (ss : List Slot) (f : Slot) → isAmong (orderOf f) (ordersAfter ids ss) ≡ isAmong (orderOf f) ids || knownOrder ss f
+unfolding ordersAfter knownOrder
+among-after ids [] f = sym (or-false (isAmong (orderOf f) ids))
+among-after ids (s ∷ ss) f =
+    among-after (withOrder ids s) ss f
+    ∙ ap (λ (b : Bool). b || knownOrder ss f) (among-with (orderOf f) ids s)
+    ∙ or-assoc (isAmong (orderOf f) ids) (isFill s && same (orderOf f) (orderOf s)) (knownOrder ss f)
+    ∙ ap (λ (b : Bool). isAmong (orderOf f) ids || b) (sym (known-cons s ss f))
+
+pub among-known : (ss : List Slot) (f : Slot) → isAmong (orderOf f) (ordersOf ss) ≡ knownOrder ss f
+among-known ss f = among-after [] ss f
+
+-- ---- a slot more
+after-end : (ids : List (List ℕ)) (ss : List Slot) (s : Slot) → ordersAfter ids (ss ++ (s ∷ [])) ≡ withOrder (ordersAfter ids ss) s
+unfolding ordersAfter
+after-end ids [] s = refl
+after-end ids (x ∷ ss) s = after-end (withOrder ids x) ss s
+
+pub orders-more : (ss : List Slot) (f : Slot) → isFill f ≡ true → ordersOf (ss ++ (f ∷ [])) ≡ cond (knownOrder ss f) (ordersOf ss) (ordersOf ss ++ (orderOf f ∷ []))
+unfolding withOrder
+orders-more ss f e =
+    after-end [] ss f
+    ∙ ap₂ (λ (a b : Bool). cond (a && not b) (ordersOf ss ++ (orderOf f ∷ [])) (ordersOf ss)) e (among-known ss f)
+    ∙ turned (knownOrder ss f)
+  where
+    turned : (b : Bool) → cond (not b) (ordersOf ss ++ (orderOf f ∷ [])) (ordersOf ss) ≡ cond b (ordersOf ss) (ordersOf ss ++ (orderOf f ∷ []))
+    turned true = refl
+    turned false = refl
+
+pub orders-counted : (ss : List Slot) (f : Slot) → isFill f ≡ true → ordersWith ss (length (ordersOf ss)) f ≡ length (ordersOf (ss ++ (f ∷ [])))
+unfolding ordersWith
+orders-counted ss f e = by (knownOrder ss f) ∙ sym (ap length (orders-more ss f e))
+  where
+    by : (b : Bool) → cond b (length (ordersOf ss)) (length (ordersOf ss) + 1) ≡ length (cond b (ordersOf ss) (ordersOf ss ++ (orderOf f ∷ [])))
+    by true = refl
+    by false = sym (length-append (ordersOf ss) (orderOf f ∷ []))
+
+-- ---- the fills
+fills-end : (n : ℕ) (ss : List Slot) (s : Slot) → fillsAfter n (ss ++ (s ∷ [])) ≡ fillsWith (fillsAfter n ss) s
+unfolding fillsAfter
+fills-end n [] s = refl
+fills-end n (x ∷ ss) s = fills-end (fillsWith n x) ss s
+
+pub fills-counted : (ss : List Slot) (s : Slot) → fillsOf (ss ++ (s ∷ [])) ≡ fillsWith (fillsOf ss) s
+fills-counted ss s = fills-end 0 ss s
+
+fills-below : (n : ℕ) (ss : List Slot) → fillsAfter n ss ≤ n + length ss
+unfolding fillsAfter
+fills-below n [] = omega arith
+fills-below n (s ∷ ss) =
+    let a : fillsWith n s ≤ n + 1 = of-cond (λ (k : ℕ). k ≤ n + 1) (isFill s) (λ e. omega arith) (λ e. omega arith) in
+    let b = fills-below (fillsWith n s) ss in
+    omega arith
+
+pub fills-most : (ss : List Slot) → fillsOf ss ≤ length ss
+fills-most ss = omega (arith, fills-below 0 ss)
