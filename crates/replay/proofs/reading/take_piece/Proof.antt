@@ -1,11 +1,11 @@
--- `replay::take_piece` is safe and ends: each turn of its loop passes a line feed.
+-- `replay::reading::take_piece` is safe and ends: each turn of its loop passes a line feed.
 use mathlib.Core.Path.{_≡_, _∙_}
 use native.Mathlib.Omega.{arith}
 use Prim.Native.Nat.{_≤_, _-_}
 use lib.ListN.{length}
 use borrow.Author.Needs.{needs}
-use Rattle.replay.proofs.take_piece.Statement.{statement}
-use Rattle.replay.proofs.take_piece.Tie as tie
+use Rattle.replay.proofs.reading.take_piece.Statement.{statement}
+use Rattle.replay.proofs.reading.take_piece.Tie as tie
 
 abbrev Inv-loop : tie.InvT-loop
 Inv-loop piece line₀ bytes₀ journal₀ book₀ world₀ len₀ at₀ line bytes journal book world len at =
