@@ -5,7 +5,7 @@ use mathlib.Core.Logic.{⊎-elim}
 use mathlib.Core.List.{List, [], _∷_, _++_, append-nil}
 use mathlib.Core.Option.{Option, none, some}
 use mathlib.Core.Bool.{Bool, true, false, _&&_, _||_, not}
-use native.Mathlib.Nat.{suc-ne-zero}
+use native.Mathlib.Nat.{suc-ne-zero, le-refl}
 use native.Mathlib.Omega.{arith}
 use lib.ListN.{length, take, drop, getD, length-append, length-drop, length-take}
 use lib.Seq.{take-append-le, drop-append-le, take-suc, getD-drop}
@@ -27,7 +27,7 @@ use Rattle.fill.specs.Slot.{Slot, lineOf, slotLawful, fillMark}
 use Rattle.book.specs.Place.{place, isNew, hasRoom}
 use Rattle.book.specs.declared.Placed.{Placed}
 use Rattle.book.specs.declared.Placed.the-variants as placed
-use Rattle.note.specs.Notes.{Note, Leaves, Marks, Clears}
+use Rattle.note.specs.Notes.{Leaves, Marks, Clears}
 use Rattle.note.specs.Kept.{Kept, empty, top, bookable, lawful, after}
 use Rattle.report.specs.Report.{reportIn, reportedIn, slotIn, ruleFault}
 use Rattle.report.specs.declared.Reported.{Reported}
@@ -63,6 +63,18 @@ pub record Stands (st : State) (h : Shown) : Type 0 where
   pub base : h .base ≤ st .kept .acked
   pub given : h .given ≡ linesOf (h .base + 1) (take (st .offered - h .base) (drop (h .base) (st .kept .slots)))
 
+-- nothing was shown since the marks were set equal
+pub stands-anew : (st : State) → st .offered ≡ st .kept .acked → st .kept .acked ≤ length (st .kept .slots) → Stands st (record { base = st .kept .acked; given = [] })
+stands-anew st e h =
+    let n : ℕ = st .kept .acked in
+    let z : st .offered - n ≡ 0 = omega arith in
+    record {
+      low = omega arith;
+      high = omega arith;
+      base = omega arith;
+      given = sym (ap (λ (i : ℕ). linesOf (n + 1) (take i (drop n (st .kept .slots)))) z);
+    }
+
 -- whether a call answers that it acknowledged
 abbrev pub isAcked : Answer → Bool
 isAcked a = tellsOf a .acked
@@ -90,12 +102,14 @@ stands-more st w d h gs o a f anew-not gave-none m =
     let lf : length (d .next .kept .slots) ≡ length l + length gs = ap length f ∙ length-append l gs in
     let hb : b ≤ length l = omega (arith, m .base, m .low, m .high) in
     let ht : n - b ≤ length (drop b l) = omega (arith, length-drop b l, m .high) in
+    let same : take (d .next .offered - b) (drop b (d .next .kept .slots)) ≡ take (n - b) (drop b l) =
+    ap₂ (λ (i : ℕ) (x : List Slot). take (i - b) (drop b x)) o f ∙ ap (take (n - b)) (drop-append-le b l gs hb) ∙ take-append-le (n - b) (drop b l) gs ht in
     subst (λ (x : Bool). Stands (d .next) (showing h w d x)) (sym anew-not) (record {
       low = omega (arith, m .low);
       high = omega (arith, m .high);
       base = omega (arith, m .base);
       given = ap (λ (x : List (List ℕ)). h .given ++ x) gave-none ∙ append-nil (h .given) ∙ m .given
-          ∙ ap (linesOf (b + 1)) (sym (ap₂ (λ (i : ℕ) (x : List Slot). take (i - b) (drop b x)) o f ∙ ap (take (n - b)) (drop-append-le b l gs hb) ∙ take-append-le (n - b) (drop b l) gs ht));
+          ∙ ap (linesOf (b + 1)) (sym same);
     })
 
 stands-same : (st : State) (w : What) (d : Did) (h : Shown) → d .next .offered ≡ st .offered → d .next .kept .acked ≡ st .kept .acked
@@ -302,21 +316,13 @@ acts-offer : (st : State) → Acts st Offer (offer st)
 unfolding offer
 acts-offer st = acts-offering st (drop (st .offered) (st .kept .slots)) refl
 
-sub-self : (n : ℕ) → n - n ≡ 0
-sub-self n = omega arith
-
 acts-begin : (st : State) → st .kept .acked ≤ length (st .kept .slots) → Acts st Begin-again (beginAgain st)
 unfolding beginAgain
 acts-begin st mk = record {
   notes = refl;
   tells = tells-none st (quiet Done (offering (st .kept .acked) st)) refl refl;
   acks = λ h. contrary h refl;
-  marks = λ h m. record {
-    low = omega arith;
-    high = mk;
-    base = omega arith;
-    given = sym (ap (λ (i : ℕ). linesOf (st .kept .acked + 1) (take i (drop (st .kept .acked) (st .kept .slots)))) (sub-self (st .kept .acked)));
-  };
+  marks = λ h m. stands-anew (offering (st .kept .acked) st) refl mk;
 }
 
 acts-acked : (st : State) (n : ℕ) → n ≤ st .offered → st .kept .acked < n → st .offered ≤ length (st .kept .slots)
@@ -358,9 +364,6 @@ empty-path q safe h =
     let k : q .acked ≡ 0 = eqb-true (q .acked) 0 (a .1) in
     λ i. record { e = sym e i; o = sym o i; slots = sym s i; orders = sym n i; acked = sym k i }
 
-stands-fresh : Stands (woken empty) (record { base = 0; given = [] })
-stands-fresh = record { low = omega arith; high = omega arith; base = omega arith; given = refl }
-
 tells-day : (st : State) (d : Did) → numberTold (d .answer) ≡ none → d .next .kept .slots ≡ [] → Tells st d
 tells-day st d u e n = ((λ h. none-some n (sym u ∙ h)), λ x. no-empty (st .kept .slots) (x .0) (sym e ∙ x .1 .slots))
 
@@ -372,7 +375,7 @@ acts-day st safe h =
       notes = empty-path (st .kept) safe e;
       tells = tells-day st (quiet Done (woken empty)) refl refl;
       acks = λ h. contrary h refl;
-      marks = λ x m. stands-fresh;
+      marks = λ x m. stands-anew (woken empty) refl (le-refl 0);
     })
     (λ _. record {
       notes = record {
@@ -383,7 +386,7 @@ acts-day st safe h =
       };
       tells = tells-day st (noting Done Clears (woken empty)) refl refl;
       acks = λ h. contrary h refl;
-      marks = λ x m. stands-fresh;
+      marks = λ x m. stands-anew (woken empty) refl (le-refl 0);
     })
 
 -- a refused restart changes nothing

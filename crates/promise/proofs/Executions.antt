@@ -4,7 +4,7 @@ use mathlib.Core.Path.{_≡_, refl, sym, ap, _∙_}
 use mathlib.Core.Logic.{⊎-elim}
 use mathlib.Core.List.{List, [], _∷_, _++_}
 use mathlib.Core.Option.{Option, none, some}
-use mathlib.Core.Bool.{Bool, true, false, cond}
+use mathlib.Core.Bool.{Bool, true, false, cond, _||_}
 use native.Mathlib.Nat.{add-assoc, zero-add, add-zero, suc-ne-zero, not-suc-le-zero}
 use native.Mathlib.Omega.{arith}
 use lib.ListN.{length, drop, getD, length-append}
@@ -22,8 +22,9 @@ use Rattle.promise.specs.World.{without, distinct, Distinct, linesOf}
 pub none-some : {A B : Type 0} (a : A) → none ≡ some a → B
 none-some a h = let z : _≡_ {A = ℕ} 0 1 = cc in absurd (suc-ne-zero 0 (sym z))
 
-pub some-none : {A B : Type 0} (a : A) → some a ≡ none → B
-some-none a h = none-some a (sym h)
+pub or-false : (t : Bool) → t || false ≡ t
+or-false true = refl
+or-false false = refl
 
 pub no-snoc : {A : Type 0} (l : List Slot) (f : Slot) → l ≡ l ++ (f ∷ []) → A
 no-snoc l f h = let z : length l ≡ length l + 1 = ap length h ∙ length-append l (f ∷ []) in absurd (not-suc-le-zero {n = 0} (omega arith))

@@ -1,7 +1,7 @@
 -- A refused call answers the number of the first row of the paper's table that holds.
 use Prim.Native.Nat.{ℕ}
 use mathlib.Core.Path.{_≡_, refl, ap, _∙_}
-use mathlib.Core.List.{List, [], _∷_}
+use mathlib.Core.List.{List}
 use mathlib.Core.Option.{Option, none, some}
 use mathlib.Core.Bool.{Bool, true, false, cond, not}
 use Rattle.octet.specs.Maybe.{orElse, isNone}

@@ -13,7 +13,7 @@ use native.Mathlib.Omega.{arith}
 use lib.ListN.{length, take, drop, getD, replicate}
 use lib.Seq.{take-all}
 use lib.Dec.{ltb, eqb}
-use borrow.Author.Tests.{eqb-true, ltb-true}
+use borrow.Author.Tests.{eqb-true, ltb-true, not-false}
 use Rattle.octet.specs.Bytes.{bytesOf, between, allIn, untilByte}
 use Rattle.octet.specs.Maybe.{isNone, orElse, first, unless}
 use Rattle.octet.specs.Splice.{splice}
@@ -128,10 +128,6 @@ time-formed v h =
     (λ x. eqb-true (likeRun timePattern v) (length v) (and-both (eqb (likeRun timePattern v) (length v)) (timeLong (length v)) x .0))
     (λ x. contrary h (rw x))
     (bool-case (eqb (likeRun timePattern v) (length v) && timeLong (length v)))
-
-not-false : (t : Bool) → not t ≡ false → t ≡ true
-not-false true h = refl
-not-false false h = sym h
 
 pub time-clear : (time : List ℕ) → badGiven time ≡ false → Clear time × (length time ≡ 21)
 unfolding badGiven
@@ -249,17 +245,6 @@ scanned-small scan.Sound h = tt
 scanned-small scan.Malformed h = (omega arith, omega arith)
 scanned-small (scan.Empty tag) h = (h, omega arith)
 
-kind-small : (phase : Phase) (k : Kind) → SmallIf (kindFault phase k)
-kind-small phase kind.Logon = of-cond SmallIf (inside phase) (λ _. (omega arith, omega arith)) (λ _. tt)
-kind-small phase kind.Heartbeat = tt
-kind-small phase kind.Test = tt
-kind-small phase kind.Resend = tt
-kind-small phase kind.Reset = tt
-kind-small phase kind.Logout = tt
-kind-small phase kind.Report = tt
-kind-small phase kind.Other = tt
-kind-small phase kind.Unlisted = (omega arith, omega arith)
-
 -- the tags of the table
 abbrev tagIn : Row → ℕ
 tagIn (row.Needs tag form place) = tag
@@ -269,16 +254,17 @@ abbrev smallRows : List Row → Bool
 smallRows [] = true
 smallRows (r ∷ rows) = ltb (tagIn r) 1000 && smallRows rows
 
-table-small : (setup : Setup) (k : Kind) → smallRows (tableOf setup k) ≡ true
-table-small setup kind.Logon = refl
-table-small setup kind.Heartbeat = refl
-table-small setup kind.Test = refl
-table-small setup kind.Resend = refl
-table-small setup kind.Reset = refl
-table-small setup kind.Logout = refl
-table-small setup kind.Report = refl
-table-small setup kind.Other = refl
-table-small setup kind.Unlisted = refl
+-- by its type: the fault of step 6, and the tags of its table
+kind-small : (setup : Setup) (phase : Phase) (k : Kind) → SmallIf (kindFault phase k) × (smallRows (tableOf setup k) ≡ true)
+kind-small setup phase kind.Logon = (of-cond SmallIf (inside phase) (λ _. (omega arith, omega arith)) (λ _. tt), refl)
+kind-small setup phase kind.Heartbeat = (tt, refl)
+kind-small setup phase kind.Test = (tt, refl)
+kind-small setup phase kind.Resend = (tt, refl)
+kind-small setup phase kind.Reset = (tt, refl)
+kind-small setup phase kind.Logout = (tt, refl)
+kind-small setup phase kind.Report = (tt, refl)
+kind-small setup phase kind.Other = (tt, refl)
+kind-small setup phase kind.Unlisted = ((omega arith, omega arith), refl)
 
 check-small : (tag : ℕ) (c : Check) → tag < 1000 → SmallIf (checkFault tag c)
 check-small tag check.Good h = tt
@@ -307,5 +293,7 @@ walk-small given look (r ∷ rows) h =
 pub fault-small : (setup : Setup) (phase : Phase) (o : ℕ) (ps : Pieces) → SmallIf (faultIn setup phase o ps)
 unfolding faultIn firstFault
 fault-small setup phase o ps =
+    let k : Kind = kindIn setup ps in
+    let x = kind-small setup phase k in
     or-small (scanFault (scanOf ps)) _ (scanned-small (scanOf ps) (scan-small ps))
-    (or-small (kindFault phase (kindIn setup ps)) _ (kind-small phase (kindIn setup ps)) (walk-small (givenOf phase o) (atPieces ps) (tableOf setup (kindIn setup ps)) (table-small setup (kindIn setup ps))))
+    (or-small (kindFault phase k) _ (x .0) (walk-small (givenOf phase o) (atPieces ps) (tableOf setup k) (x .1)))

@@ -3,7 +3,7 @@ use Prim.Native.Nat.{ℕ, _+_, _^_, _<_}
 use mathlib.Core.Path.{_≡_, refl, sym, ap, ap₂, _∙_, subst}
 use mathlib.Core.List.{List, [], _∷_, _++_, append-nil}
 use mathlib.Core.Option.{Option, none, some}
-use mathlib.Core.Bool.{Bool, true, false, _||_}
+use mathlib.Core.Bool.{Bool, false, _||_}
 use native.Mathlib.Omega.{arith}
 use lib.ListN.{length, take, getD}
 use lib.Dec.{leb}
@@ -25,7 +25,6 @@ use Rattle.wire.specs.Messages.{headerOf, fieldsOf, messageOf, numberAfter, rep
 use Rattle.wire.specs.Sending.{SmallFault}
 use Rattle.wire.specs.Reading.{Clear, Given}
 use Rattle.wire.specs.declared.Say.{Say}
-use Rattle.wire.specs.declared.Say.the-variants as say
 use Rattle.wire.specs.declared.Reply.{Reply}
 use Rattle.wire.specs.declared.Reply.the-variants.{Nothing, One, Two}
 use Rattle.wire.proofs.Bounds.{message-short}
@@ -58,6 +57,7 @@ use Rattle.receiver.specs.declared.Answer.{Answer}
 use Rattle.receiver.specs.declared.Answer.the-variants as answer
 use Rattle.promise.specs.World.{world}
 use Rattle.promise.specs.WrittenRead.{MessagesReadBack, Writable, NotesReadBack, Leads, Messages, fieldsIn, givenTime, wordIn, wordOf, hasReject, isRejected, Replies, CallsReadBack}
+use Rattle.promise.proofs.Executions.{or-false}
 use Rattle.promise.proofs.Acts.{neither, o-bound}
 use Rattle.promise.proofs.Good.{safe-live, good}
 use Rattle.promise.proofs.Reading.{Agreed, agreed, time-clear, type-clear, SmallIf, or-small}
@@ -113,30 +113,20 @@ module _ (setup : Setup) (o : ℕ) (time : List ℕ) (ids : Agreed setup) (stamp
   reply-reads word Nothing x = refl
   reply-reads word (One a) x = last o word a o-small x
   reply-reads word (Two a b) x =
-      (messageOf setup (numberAfter o a) time word b, lead o word a (messageOf setup (numberAfter o a) time word b) o-small (x .0), last (numberAfter o a) word b (after-small a) (x .1))
+      let rest : List ℕ = messageOf setup (numberAfter o a) time word b in
+      (rest, lead o word a rest o-small (x .0), last (numberAfter o a) word b (after-small a) (x .1))
 
 -- ---- its type
 
 type-reject : (setup : Setup) (o : ℕ) (time word : List ℕ) (a : Say) → isThat (bytesOf "3") (first (valuesWith 35 (fieldsOf setup o time word a))) ≡ isReject a
 unfolding headerOf
-type-reject setup o time word say.Logon = refl
-type-reject setup o time word say.Heartbeat = refl
-type-reject setup o time word say.Echo = refl
-type-reject setup o time word say.Test = refl
-type-reject setup o time word say.Logout = refl
-type-reject setup o time word (say.Resend from) = refl
-type-reject setup o time word (say.Reject n f) = refl
-type-reject setup o time word (say.GapFill from to) = refl
-
-or-none : (t : Bool) → t || false ≡ t
-or-none true = refl
-or-none false = refl
+type-reject setup o time word a = refl
 
 reply-rejects : (setup : Setup) (o : ℕ) (time word : List ℕ) (r : Reply) → hasReject (fieldsIn setup o time word r) ≡ saysReject r
 reply-rejects setup o time word Nothing = refl
-reply-rejects setup o time word (One a) = or-none _ ∙ type-reject setup o time word a
+reply-rejects setup o time word (One a) = or-false _ ∙ type-reject setup o time word a
 reply-rejects setup o time word (Two a b) =
-    ap₂ _||_ (type-reject setup o time word a) (or-none _ ∙ type-reject setup (numberAfter o a) time word b)
+    ap₂ _||_ (type-reject setup o time word a) (or-false _ ∙ type-reject setup (numberAfter o a) time word b)
 
 -- ---- a call
 
@@ -153,17 +143,12 @@ replies-with setup o time word d r ids stamp small e x h = record {
   rejected = reply-rejects setup o time (word r) r ∙ h;
 }
 
-own-sayable : (own : Own) → Sayable [] (says own)
-own-sayable own.Open = record { small = tt; clear = tt }
-own-sayable own.Beat = record { small = tt; clear = tt }
-own-sayable own.Ask = record { small = tt; clear = tt }
-own-sayable own.Close = record { small = tt; clear = tt }
-
-own-quiet : (own : Own) → isReject (says own) ≡ false
-own-quiet own.Open = refl
-own-quiet own.Beat = refl
-own-quiet own.Ask = refl
-own-quiet own.Close = refl
+-- what an own call says
+own-sayable : (own : Own) → Sayable [] (says own) × (isReject (says own) ≡ false)
+own-sayable own.Open = (record { small = tt; clear = tt }, refl)
+own-sayable own.Beat = (record { small = tt; clear = tt }, refl)
+own-sayable own.Ask = (record { small = tt; clear = tt }, refl)
+own-sayable own.Close = (record { small = tt; clear = tt }, refl)
 
 -- ---- the faults of a report
 
@@ -302,8 +287,9 @@ module _ (setup : Setup) (st : State) (b : Lent) (ids : Agreed setup) (sound : S
   own-said : (own : Own) (time : List ℕ) → writing b time (mayCall own (st .phase)) (st .kept .o) ≡ none → Fine (Own-call own time) (owned setup st time own)
   unfolding owned
   own-said own time h =
-      replies-with setup (st .kept .o) time (λ (r : Reply). []) (owned setup st time own) (One (says own)) ids (time-clear time (given-time b time (mayCall own (st .phase)) (st .kept .o) h))
-      (o-fits time (mayCall own (st .phase)) h) refl (own-sayable own) (own-quiet own)
+      let stamp = time-clear time (given-time b time (mayCall own (st .phase)) (st .kept .o) h) in
+      let x = own-sayable own in
+      replies-with setup (st .kept .o) time (λ (r : Reply). []) (owned setup st time own) (One (says own)) ids stamp (o-fits time (mayCall own (st .phase)) h) refl (x .0) (x .1)
 
   offered-said : (o : Option Slot) → Fine Offer (offerOf st o)
   offered-said none = nothing-said Offer (offerOf st none) refl refl

@@ -17,6 +17,7 @@ use Rattle.answer.specs.Numbers.{phaseNumber}
 use Rattle.answer.specs.declared.Setup.{Setup}
 use Rattle.answer.specs.declared.Refusal.{Refusal}
 use Rattle.answer.specs.declared.Refusal.the-variants as refusal
+use Rattle.fill.specs.Slot.{Slot}
 use Rattle.book.specs.Place.{place, isNew, hasRoom}
 use Rattle.note.specs.Kept.{waiting}
 use Rattle.report.specs.Report.{reportedIn, slotIn}
@@ -73,10 +74,12 @@ isFilled (reported.Faulty f) = false
 isFilled reported.Aside = false
 isFilled reported.Fill = true
 
+-- a new fill, and no room for it
+abbrev pub unplaced : State → Slot → Bool
+unplaced st f = isNew (place (st .kept .slots) f) && not (hasRoom (st .kept .slots) (st .kept .orders) f)
+
 abbrev pub crowded : Setup → State → Pieces → Bool
-crowded setup st ps =
-    isReport (judge setup (sessionOf st) ps) && isFilled (reportedIn ps) && isNew (place (st .kept .slots) (slotIn ps))
-    && not (hasRoom (st .kept .slots) (st .kept .orders) (slotIn ps))
+crowded setup st ps = isReport (judge setup (sessionOf st) ps) && isFilled (reportedIn ps) && unplaced st (slotIn ps)
 
 abbrev pub crowdedIn : Setup → State → List ℕ → Found → Bool
 crowdedIn setup st s found.More = false
