@@ -194,7 +194,8 @@ module _ (setup : Setup) (st : State) (time s : List ℕ) (safe : Safe (st .kept
   unfolding settled
   acts-settled len ps j f u = acts-session st (Message time s) (Framed len (j .outcome)) (j .next) _ (λ e o. record { lent = refl; acks = refl; clears = refl }) f refl refl u refl
 
-  acts-passed : (len : ℕ) (ps : Pieces) (o : Outcome) → st .kept .e < top → becameOf o .booked ≡ none → Acts st (Message time s) (settled setup st time len ps (passed o (sessionOf st)))
+  acts-passed : (len : ℕ) (ps : Pieces) (o : Outcome) → st .kept .e < top → becameOf o .booked ≡ none
+      → Acts st (Message time s) (settled setup st time len ps (passed o (sessionOf st)))
   acts-passed len ps o l u = acts-settled len ps (passed o (sessionOf st)) (passed-numbers (sessionOf st) o-most (omega arith) o .onward) u
 
   acts-rejected : (len : ℕ) (ps : Pieces) (n : ℕ) (f : Fault) → st .kept .e < top → Acts st (Message time s) (settled setup st time len ps (rejected (sessionOf st) n f))
@@ -405,21 +406,22 @@ pub neither : (why : Refusal) (t : Bool) (rest : Option Refusal) → orElse (ref
 neither why true rest h = none-some why (sym h)
 neither why false rest h = (refl, h)
 
-pub o-bound : (b : Lent) (time : List ℕ) (allowed : Bool) (o : ℕ) → writing b time allowed o ≡ none → o ≤ lastNumber
+-- a call that can write messages, and is not refused: its time is good, and O is not used up
+pub may-write : (b : Lent) (time : List ℕ) (allowed : Bool) (o : ℕ) → writing b time allowed o ≡ none → (badGiven time ≡ false) × (o ≤ lastNumber)
 unfolding writing
-o-bound b time allowed o h =
+may-write b time allowed o h =
     let x = neither refusal.ShortBuffer (shortReply (b .reply) || shortNote (b .note)) _ h in
     let y = neither refusal.BadTime (badGiven time) _ (x .1) in
     let z = neither refusal.WrongPhase (not allowed) _ (y .1) in
-    ltb-false lastNumber o (not-refused refusal.NumbersUsed (ltb lastNumber o) (z .1))
+    (y .0, ltb-false lastNumber o (not-refused refusal.NumbersUsed (ltb lastNumber o) (z .1)))
 
 module _ (setup : Setup) where
   acts-unrefused : (st : State) (b : Lent) (w : What) → startsAgain w ≡ false → Safe (st .kept) → st .offered ≤ length (st .kept .slots) → refusalOf st b w ≡ none
       → Acts st w (unrefused setup st w)
   unfolding refusalOf unrefused
-  acts-unrefused st b (Own-call own time) r safe high h = acts-owned setup st time own (safe .sound .expected) (o-bound b time (mayCall own (st .phase)) (st .kept .o) h)
+  acts-unrefused st b (Own-call own time) r safe high h = acts-owned setup st time own (safe .sound .expected) (may-write b time (mayCall own (st .phase)) (st .kept .o) h .1)
   acts-unrefused st b Line-lost r safe high h = acts-lost st
-  acts-unrefused st b (Message time s) r safe high h = acts-message setup st time s safe (o-bound b time (isOn (st .phase)) (st .kept .o) h)
+  acts-unrefused st b (Message time s) r safe high h = acts-message setup st time s safe (may-write b time (isOn (st .phase)) (st .kept .o) h .1)
   acts-unrefused st b Offer r safe high h = acts-offer st
   acts-unrefused st b Begin-again r safe high h = acts-begin st (safe .sound .mark)
   acts-unrefused st b (Acknowledge n) r safe high h =

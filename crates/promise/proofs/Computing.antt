@@ -72,11 +72,11 @@ unfolding steps1to3 judging.rejectedIf judging.filledTo judging.movedTo judging.
 sessions = tt
 
 unfoldable pub books : Unit {0}
-unfolding slot.bodyOf slot.slotLawful slot.lineOf place.sameExec place.sameOrder place.byOrder place.byExec place.place place.knownOrder place.ordersWith place.hasRoom place.sumWhere
+unfolding slot.bodyOf slot.slotLawful slot.lineOf place.sameExec place.sameOrder place.byOrder place.byExec place.place place.knownOrder place.ordersWith place.hasRoom
 books = tt
 
 unfoldable pub keeping : Unit {0}
-unfolding place.inStep kept.bookable kept.lawful kept.after kinds.kindOf notes.noteBytes notes.slotAs notes.bookedBytes notes.readAs notes.readNote restart.run restart.restart
+unfolding place.sumWhere place.inStep kept.bookable kept.lawful kept.after kinds.kindOf notes.noteBytes notes.slotAs notes.bookedBytes notes.readAs notes.readNote restart.run restart.restart
 keeping = tt
 
 unfoldable pub taking : Unit {0}

@@ -39,7 +39,7 @@ use Rattle.note.proofs.Keeping.{Sound}
 use Rattle.report.specs.Report.{Report, rule14, rule151, rule150, rule39, unlessKept, ruleFault, afterRules, reportedOf, reportIn, reportedIn, slotIn}
 use Rattle.report.specs.declared.Reported.{Reported}
 use Rattle.report.specs.declared.Reported.the-variants as reported
-use Rattle.queue.specs.Queue.{shortNote, nextOffer}
+use Rattle.queue.specs.Queue.{nextOffer}
 use Rattle.restart.specs.Restart.{Outcome as Restarting, Again, Unlawful, restart}
 use Rattle.session.specs.Session.{says, isOn, mayCall}
 use Rattle.session.specs.Judging.{rejected, passed, judge}
@@ -52,13 +52,13 @@ use Rattle.session.specs.declared.Verdict.the-variants.{Settled}
 use Rattle.session.proofs.Turns.{judge-report}
 use Rattle.receiver.specs.State.{State, woken, Did, quiet, sessionOf}
 use Rattle.receiver.specs.Calls.{owned, lost, settled, booked, Deed, Say as Saying, withRoom, placedFill, ruled, judgedBy, deedOf, carriedOut, framed, foundTo, message, offerOf, offer, beginAgain, acknowledge, isEmpty, newDay, restarted}
-use Rattle.receiver.specs.Receiver.{What, Own-call, Line-lost, Message, Offer, Begin-again, Acknowledge, New-day, Restart, Lent, shortReply, badGiven, writing, refusalOf, unrefused, unless-refused, does}
+use Rattle.receiver.specs.Receiver.{What, Own-call, Line-lost, Message, Offer, Begin-again, Acknowledge, New-day, Restart, Lent, writing, refusalOf, unrefused, unless-refused, does}
 use Rattle.receiver.specs.declared.Answer.{Answer}
 use Rattle.receiver.specs.declared.Answer.the-variants as answer
 use Rattle.promise.specs.World.{world}
 use Rattle.promise.specs.WrittenRead.{MessagesReadBack, Writable, NotesReadBack, Leads, Messages, fieldsIn, givenTime, wordIn, wordOf, hasReject, isRejected, Replies, CallsReadBack}
 use Rattle.promise.proofs.Executions.{or-false}
-use Rattle.promise.proofs.Acts.{neither, o-bound}
+use Rattle.promise.proofs.Acts.{may-write}
 use Rattle.promise.proofs.Good.{safe-live, good}
 use Rattle.promise.proofs.Reading.{Agreed, agreed, time-clear, type-clear, SmallIf, or-small}
 use Rattle.promise.proofs.Speaking.{Sayable, AllSayable, isReject, saysReject, Speaks, rejected-speaks, passed-speaks, settled-speaks}
@@ -266,11 +266,6 @@ module _ (setup : Setup) (st : State) (time s : List ℕ) (ids : Agreed setup) (
 
 -- ---- every call
 
-given-time : (b : Lent) (time : List ℕ) (allowed : Bool) (o : ℕ) → writing b time allowed o ≡ none → badGiven time ≡ false
-unfolding writing
-given-time b time allowed o h =
-    neither refusal.BadTime (badGiven time) _ (neither refusal.ShortBuffer (shortReply (b .reply) || shortNote (b .note)) _ h .1) .0
-
 module _ (setup : Setup) (st : State) (b : Lent) (ids : Agreed setup) (sound : Sound (st .kept)) where
   abbrev Fine : What → Did → Type 0
   Fine w d = Replies setup (st .kept .o) (givenTime w) (wordOf w) d
@@ -279,7 +274,7 @@ module _ (setup : Setup) (st : State) (b : Lent) (ids : Agreed setup) (sound : S
   nothing-said w d e h = replies-nothing setup (st .kept .o) (givenTime w) (wordOf w) d e h
 
   o-fits : (time : List ℕ) (allowed : Bool) → writing b time allowed (st .kept .o) ≡ none → st .kept .o < 2 ^ 32
-  o-fits time allowed h = let x = o-bound b time allowed (st .kept .o) h in omega arith
+  o-fits time allowed h = let x = may-write b time allowed (st .kept .o) h .1 in omega arith
 
   e-fits : st .kept .e < 2 ^ 32
   e-fits = let x = sound .expected in omega arith
@@ -287,7 +282,7 @@ module _ (setup : Setup) (st : State) (b : Lent) (ids : Agreed setup) (sound : S
   own-said : (own : Own) (time : List ℕ) → writing b time (mayCall own (st .phase)) (st .kept .o) ≡ none → Fine (Own-call own time) (owned setup st time own)
   unfolding owned
   own-said own time h =
-      let stamp = time-clear time (given-time b time (mayCall own (st .phase)) (st .kept .o) h) in
+      let stamp = time-clear time (may-write b time (mayCall own (st .phase)) (st .kept .o) h .0) in
       let x = own-sayable own in
       replies-with setup (st .kept .o) time (λ (r : Reply). []) (owned setup st time own) (One (says own)) ids stamp (o-fits time (mayCall own (st .phase)) h) refl (x .0) (x .1)
 
@@ -305,7 +300,7 @@ module _ (setup : Setup) (st : State) (b : Lent) (ids : Agreed setup) (sound : S
   unrefused-said (Own-call own time) h = own-said own time h
   unrefused-said Line-lost h = nothing-said Line-lost (lost st) refl refl
   unrefused-said (Message time s) h =
-      message-replied setup st time s ids (time-clear time (given-time b time (isOn (st .phase)) (st .kept .o) h)) e-fits (o-fits time (isOn (st .phase)) h)
+      message-replied setup st time s ids (time-clear time (may-write b time (isOn (st .phase)) (st .kept .o) h .0)) e-fits (o-fits time (isOn (st .phase)) h)
   unrefused-said Offer h = offered-said (nextOffer (st .offered) (st .kept .slots))
   unrefused-said Begin-again h = nothing-said Begin-again (beginAgain st) refl refl
   unrefused-said (Acknowledge n) h =
