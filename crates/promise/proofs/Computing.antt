@@ -76,8 +76,12 @@ unfolding slot.bodyOf slot.slotLawful slot.lineOf place.sameExec place.sameOrder
 books = tt
 
 unfoldable pub keeping : Unit {0}
-unfolding place.sumWhere place.inStep kept.bookable kept.lawful kept.after kinds.kindOf notes.noteBytes notes.slotAs notes.bookedBytes notes.readAs notes.readNote restart.run restart.restart
+unfolding place.sumWhere place.inStep kept.bookable kept.lawful kept.after restart.run restart.restart
 keeping = tt
+
+unfoldable pub noting : Unit {0}
+unfolding kinds.kindOf notes.noteBytes notes.slotAs notes.bookedBytes notes.readAs notes.readNote
+noting = tt
 
 unfoldable pub taking : Unit {0}
 unfolding calls.settled calls.booked calls.withRoom calls.placedFill calls.ruled calls.judgedBy calls.deedOf calls.carriedOut calls.framed calls.foundTo calls.message

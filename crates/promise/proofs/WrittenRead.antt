@@ -10,7 +10,7 @@ use lib.Dec.{leb}
 use borrow.Author.Tests.{eqb-true}
 use Rattle.octet.specs.Bytes.{bytesOf}
 use Rattle.octet.specs.Maybe.{first, find}
-use Rattle.octet.proofs.Cases.{of-cond}
+use Rattle.octet.proofs.Cases.{of-cond, contrary}
 use Rattle.frame.specs.Finding.{foundIn, bodyIn}
 use Rattle.frame.specs.declared.Found.{Found}
 use Rattle.frame.specs.declared.Found.the-variants as found
@@ -50,11 +50,12 @@ use Rattle.session.specs.declared.Verdict.{Verdict}
 use Rattle.session.specs.declared.Verdict.the-variants as verdict
 use Rattle.session.specs.declared.Verdict.the-variants.{Settled}
 use Rattle.session.proofs.Turns.{judge-report}
-use Rattle.receiver.specs.State.{State, woken, Did, quiet, sessionOf}
+use Rattle.receiver.specs.State.{State, Did, quiet, sessionOf}
 use Rattle.receiver.specs.Calls.{owned, lost, settled, booked, Deed, Say as Saying, withRoom, placedFill, ruled, judgedBy, deedOf, carriedOut, framed, foundTo, message, offerOf, offer, beginAgain, acknowledge, isEmpty, newDay, restarted}
 use Rattle.receiver.specs.Receiver.{What, Own-call, Line-lost, Message, Offer, Begin-again, Acknowledge, New-day, Restart, Lent, writing, refusalOf, unrefused, unless-refused, does}
 use Rattle.receiver.specs.declared.Answer.{Answer}
 use Rattle.receiver.specs.declared.Answer.the-variants as answer
+use Rattle.promise.specs.Sort.{sortOf}
 use Rattle.promise.specs.World.{world}
 use Rattle.promise.specs.WrittenRead.{MessagesReadBack, Writable, NotesReadBack, Leads, Messages, fieldsIn, givenTime, wordIn, wordOf, hasReject, isRejected, Replies, CallsReadBack}
 use Rattle.promise.proofs.Executions.{or-false}
@@ -264,6 +265,32 @@ module _ (setup : Setup) (st : State) (time s : List ℕ) (ids : Agreed setup) (
   unfolding message
   message-replied = found-replied (foundIn s) refl
 
+-- ---- a call that is lent no reply buffer writes no message, and answers of no Reject
+
+pub record Bare (d : Did) : Type 0 where
+  pub reply : d .reply ≡ []
+  pub rejected : isRejected (d .answer) ≡ false
+
+offer-bare : (st : State) (o : Option Slot) → Bare (offerOf st o)
+offer-bare st none = record { reply = refl; rejected = refl }
+offer-bare st (some f) = record { reply = refl; rejected = refl }
+
+again-bare : (st : State) (o : Restarting) → Bare (restarted st o)
+unfolding restarted
+again-bare st (Again q whole) = record { reply = refl; rejected = refl }
+again-bare st (Unlawful at) = record { reply = refl; rejected = refl }
+
+pub bare : (setup : Setup) (st : State) (w : What) → sortOf w .lent .reply ≡ false → Bare (unrefused setup st w)
+unfolding unrefused lost offer beginAgain acknowledge newDay
+bare setup st (Own-call own time) h = contrary refl h
+bare setup st Line-lost h = record { reply = refl; rejected = refl }
+bare setup st (Message time s) h = contrary refl h
+bare setup st Offer h = offer-bare st (nextOffer (st .offered) (st .kept .slots))
+bare setup st Begin-again h = record { reply = refl; rejected = refl }
+bare setup st (Acknowledge n) h = of-cond Bare (leb n (st .kept .acked)) (λ _. record { reply = refl; rejected = refl }) (λ _. record { reply = refl; rejected = refl })
+bare setup st New-day h = of-cond Bare (isEmpty (st .kept)) (λ _. record { reply = refl; rejected = refl }) (λ _. record { reply = refl; rejected = refl })
+bare setup st (Restart notes) h = again-bare st (restart notes)
+
 -- ---- every call
 
 module _ (setup : Setup) (st : State) (b : Lent) (ids : Agreed setup) (sound : Sound (st .kept)) where
@@ -286,27 +313,21 @@ module _ (setup : Setup) (st : State) (b : Lent) (ids : Agreed setup) (sound : S
       let x = own-sayable own in
       replies-with setup (st .kept .o) time (λ (r : Reply). []) (owned setup st time own) (One (says own)) ids stamp (o-fits time (mayCall own (st .phase)) h) refl (x .0) (x .1)
 
-  offered-said : (o : Option Slot) → Fine Offer (offerOf st o)
-  offered-said none = nothing-said Offer (offerOf st none) refl refl
-  offered-said (some f) = nothing-said Offer (offerOf st (some f)) refl refl
-
-  again-said : (notes : List ℕ) (o : Restarting) → Fine (Restart notes) (restarted st o)
-  unfolding restarted
-  again-said notes (Again q whole) = nothing-said (Restart notes) (quiet (answer.Restarted whole) (woken q)) refl refl
-  again-said notes (Unlawful at) = nothing-said (Restart notes) (quiet (answer.Refused (refusal.Unlawful at)) st) refl refl
+  unsaid : (w : What) → sortOf w .lent .reply ≡ false → Fine w (unrefused setup st w)
+  unsaid w h = let x = bare setup st w h in nothing-said w (unrefused setup st w) (x .reply) (x .rejected)
 
   unrefused-said : (w : What) → refusalOf st b w ≡ none → Fine w (unrefused setup st w)
-  unfolding refusalOf unrefused lost offer beginAgain acknowledge newDay
+  unfolding refusalOf unrefused
   unrefused-said (Own-call own time) h = own-said own time h
-  unrefused-said Line-lost h = nothing-said Line-lost (lost st) refl refl
+  unrefused-said Line-lost h = unsaid Line-lost refl
   unrefused-said (Message time s) h =
-      message-replied setup st time s ids (time-clear time (may-write b time (isOn (st .phase)) (st .kept .o) h .0)) e-fits (o-fits time (isOn (st .phase)) h)
-  unrefused-said Offer h = offered-said (nextOffer (st .offered) (st .kept .slots))
-  unrefused-said Begin-again h = nothing-said Begin-again (beginAgain st) refl refl
-  unrefused-said (Acknowledge n) h =
-      of-cond (Fine (Acknowledge n)) (leb n (st .kept .acked)) (λ _. nothing-said (Acknowledge n) _ refl refl) (λ _. nothing-said (Acknowledge n) _ refl refl)
-  unrefused-said New-day h = of-cond (Fine New-day) (isEmpty (st .kept)) (λ _. nothing-said New-day _ refl refl) (λ _. nothing-said New-day _ refl refl)
-  unrefused-said (Restart notes) h = again-said notes (restart notes)
+      let x = may-write b time (isOn (st .phase)) (st .kept .o) h in
+      message-replied setup st time s ids (time-clear time (x .0)) e-fits (o-fits time (isOn (st .phase)) h)
+  unrefused-said Offer h = unsaid Offer refl
+  unrefused-said Begin-again h = unsaid Begin-again refl
+  unrefused-said (Acknowledge n) h = unsaid (Acknowledge n) refl
+  unrefused-said New-day h = unsaid New-day refl
+  unrefused-said (Restart notes) h = unsaid (Restart notes) refl
 
   call-said : (w : What) → Fine w (does setup st b w)
   unfolding does
