@@ -24,8 +24,8 @@ use Rattle.wire.specs.declared.Say.the-variants as say
 use Rattle.wire.specs.declared.Reply.{Reply}
 use Rattle.wire.specs.declared.Reply.the-variants.{Nothing}
 use Rattle.session.specs.Session.{judged, asking}
-use Rattle.session.specs.Judging.{Facts, numberIf, ended, rejectedEnded, welcomed, logon, step3, resetMode, rejectedIf, gapFill, effect, inTurn, belowIf, due, answered, gapReply, gap, step4, byPhase, step2, step1, judgedBy}
-use Rattle.session.specs.Indexed.{numbered}
+use Rattle.session.specs.Reading.{Facts, numberIf, numbered}
+use Rattle.session.specs.Judging.{ended, rejectedEnded, welcomed, logon, step3, resetMode, rejectedIf, gapFill, effect, inTurn, below, due, answered, gapReply, gap, step4, byPhase, step2, step1, judgedBy}
 use Rattle.session.specs.declared.Session.{Session}
 use Rattle.session.specs.declared.Judged.{Judged}
 use Rattle.session.specs.declared.Verdict.{Verdict}
@@ -94,7 +94,7 @@ module _ (s : Session) (m : Facts) where
       unfolding step4
       turn-now g h = rw (e, eq-eqb n (s .e) g) h
 
-      pub turn-below : {j : Judged} → (n ≡ s .e → ⊥) → n < s .e → j ≡ belowIf (m .again) s → Settled j ≡ step4 s n m
+      pub turn-below : {j : Judged} → (n ≡ s .e → ⊥) → n < s .e → j ≡ below s m → Settled j ≡ step4 s n m
       unfolding step4
       turn-below g l h = rw (e, ne-eqb n (s .e) g, lt-ltb n (s .e) l) (ap Settled h)
 

@@ -1,4 +1,3 @@
-pub mod IndexLaws
 pub mod Turns
 pub mod Answers
 pub mod Unique

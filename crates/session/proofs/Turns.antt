@@ -17,8 +17,10 @@ use Rattle.value.specs.Readers.{numberRead}
 use Rattle.value.specs.declared.Number.{Number}
 use Rattle.value.specs.declared.Number.the-variants as number
 use Rattle.value.proofs.Numbers.{number-good, number-or-small}
-use Rattle.field.specs.Pieces.{Pieces, firstOf}
-use Rattle.field.specs.Index.{Index}
+use Rattle.field.specs.Pieces.{Pieces, firstOf, scanOf}
+use Rattle.field.specs.Look.{Look, lookOf, first}
+use Rattle.field.specs.declared.Scan.{Scan}
+use Rattle.field.proofs.Looks.{first-of}
 use Rattle.table.specs.Rows.{kindIn}
 use Rattle.table.specs.Steps.{faultIn}
 use Rattle.answer.specs.Numbers.{fault, inside, isKind}
@@ -36,8 +38,8 @@ use Rattle.wire.specs.declared.Say.the-variants as say
 use Rattle.wire.specs.declared.Reply.{Reply}
 use Rattle.wire.specs.declared.Reply.the-variants.{Nothing, One, Two}
 use Rattle.session.specs.Session.{into, expecting, asking, raised, judged, isIn, says, ownCall}
-use Rattle.session.specs.Judging.{Facts, ended, rejectedEnded, gapReply, answered, gapFill, numberIf, seqGiven, idsGiven, factsOf, factsIn, logon, step3, resetMode, rejectedIf, rejected, passed, movedTo, loggedOut, effect, inTurn, belowIf, gap, due, step4, byPhase, step2, step1, judgedBy, judge}
-use Rattle.session.specs.Indexed.{fieldBy, factsBy}
+use Rattle.session.specs.Reading.{Facts, numberIf, seqGiven, idsGiven, factsOf, factsIn}
+use Rattle.session.specs.Judging.{ended, rejectedEnded, gapReply, answered, gapFill, logon, step3, resetMode, rejectedIf, rejected, passed, moved, loggedOut, effect, inTurn, below, gap, due, step4, byPhase, step2, step1, judgedBy, judge}
 use Rattle.session.specs.declared.Own.{Own}
 use Rattle.session.specs.declared.Session.{Session}
 use Rattle.session.specs.declared.Judged.{Judged}
@@ -62,13 +64,13 @@ pub record Read (m : Facts) : Type 0 where
   pub to : m .to ≤ 999999999
 
 module _ (setup : Setup) (s : Session) where
-  pub facts-read : (body : List ℕ) (ix : Index) → Read (factsBy setup s body ix)
-  unfolding factsBy factsOf
-  facts-read body ix = record { seq = λ n e. seq-read (fieldBy body ix 34) n e; to = number-or-small _ }
+  pub facts-read : (scan : Scan) (look : Look) → Read (factsOf setup s scan look)
+  unfolding factsOf
+  facts-read scan look = record { seq = λ n e. seq-read (first look 34) n e; to = number-or-small _ }
 
   pub facts-read-in : (ps : Pieces) → Read (factsIn setup s ps)
-  unfolding factsIn factsOf
-  facts-read-in ps = record { seq = λ n e. seq-read (firstOf 34 ps) n e; to = number-or-small _ }
+  unfolding factsIn
+  facts-read-in ps = facts-read (scanOf ps) (lookOf ps)
 
 -- ---- a report
 
@@ -215,8 +217,8 @@ module _ (s : Session) (o-small : s .o ≤ 999999997) (e-small : s .e ≤ 999999
   rejected-goes true n f h = stays (outcome.Rejected f) (One (say.Reject n f)) s refl refl
   rejected-goes false n f h = rejected-numbers s o-small (h refl) n f
 
-  moved-goes : (to : ℕ) (reset : Bool) (n : ℕ) → to ≤ 999999999 → (reset ≡ false → s .e ≤ 999999998) → Settles s (movedTo to reset s n)
-  unfolding movedTo
+  moved-goes : (to : ℕ) (reset : Bool) (n : ℕ) → to ≤ 999999999 → (reset ≡ false → s .e ≤ 999999998) → Settles s (moved to reset s n)
+  unfolding moved
   moved-goes to reset n l h =
       of-cond (Settles s) (ltb (s .e) to)
       (λ t. (let g = ltb-true (s .e) to t in settles s o-small (outcome.Moved (to - s .e)) Nothing (expecting to s) refl (omega arith) l))
@@ -266,15 +268,14 @@ module _ (s : Session) (o-small : s .o ≤ 999999997) (e-small : s .e ≤ 999999
     step3-goes =
         of-cond (Settles s) (isKind (m .kind) kind.Logon && leb (s .e) n) (λ t. logon-goes (m .fault)) (λ t. ended-goes)
 
-    below-goes : (again : Bool) → Settles s (belowIf again s)
-    below-goes true = dropped-goes
-    below-goes false = ended-goes
+    below-goes : Settles s (below s m)
+    below-goes = of-cond (Settles s) (m .again) (λ t. dropped-goes) (λ t. ended-goes)
 
     step4-goes : Goes s (step4 s n m)
     unfolding step4
     step4-goes =
         of-cond (Goes s) (resetMode m || eqb n (s .e)) (λ t. turn-goes (m .fault) (by-number (resetMode m) t))
-        (λ t. of-cond (Settles s) (ltb n (s .e)) (λ u. below-goes (m .again)) (λ u. gap-goes))
+        (λ t. of-cond (Settles s) (ltb n (s .e)) (λ u. below-goes) (λ u. gap-goes))
 
     phase-goes : (p : Phase) → Goes s (byPhase p s n m)
     unfolding byPhase
@@ -309,17 +310,26 @@ module _ (setup : Setup) (s : Session) (ps : Pieces) where
     pub least : 1 ≤ n
     pub most : n ≤ 999999998
 
+  seq-first : seqGiven (first (lookOf ps) 34) ≡ seqGiven (firstOf 34 ps)
+  seq-first = ap seqGiven (first-of ps 34)
+
+  ids-first : idsGiven setup (first (lookOf ps) 49) (first (lookOf ps) 56) ≡ idsGiven setup (firstOf 49 ps) (firstOf 56 ps)
+  ids-first =
+      ap (λ (o : Option (List ℕ)). idsGiven setup o (first (lookOf ps) 56)) (first-of ps 49) ∙ ap (idsGiven setup (firstOf 49 ps)) (first-of ps 56)
+
   pub judge-report : (n : ℕ) → judge setup s ps ≡ Report n → ReportIn n
-  unfolding judge factsIn factsOf
+  unfolding judge factsIn factsOf faultIn
   judge-report n e =
       let t = report-turn s (factsIn setup s ps) n e in
-      let l = seq-read (firstOf 34 ps) n (t .seq) in
-      record { seq = t .seq; ids = t .ids; phase = t .phase; number = t .number; kind = t .kind; fault = t .fault; least = l .0; most = l .1 }
+      let q = sym seq-first ∙ t .seq in
+      let l = seq-read (firstOf 34 ps) n q in
+      record { seq = q; ids = sym ids-first ∙ t .ids; phase = t .phase; number = t .number; kind = t .kind; fault = t .fault; least = l .0; most = l .1 }
 
   pub judge-asks : (n : ℕ) → seqGiven (firstOf 34 ps) ≡ some n → idsGiven setup (firstOf 49 ps) (firstOf 56 ps) ≡ none → inside (s .phase) ≡ true → n ≡ s .e
       → kindIn setup ps ≡ kind.Report → faultIn setup (s .phase) (s .o) ps ≡ none → judge setup s ps ≡ Report n
-  unfolding judge factsIn factsOf
-  judge-asks n seq ids p e k f = report-asked s (factsIn setup s ps) n (record { seq = seq; ids = ids; phase = p; number = e; kind = k; fault = f })
+  unfolding judge factsIn factsOf faultIn
+  judge-asks n seq ids p e k f =
+      report-asked s (factsIn setup s ps) n (record { seq = seq-first ∙ seq; ids = ids-first ∙ ids; phase = p; number = e; kind = k; fault = f })
 
   -- what is settled, in a call that refusal 4 does not refuse
   pub judge-settles : s .o ≤ 999999997 → s .e ≤ 999999999 → (j : Judged) → judge setup s ps ≡ Settled j → Settles s j

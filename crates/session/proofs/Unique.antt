@@ -9,8 +9,8 @@ use borrow.Author.Tests.{eqb-true}
 use Rattle.octet.specs.Maybe.{unless}
 use Rattle.octet.proofs.Cases.{of-cond, ap-cond}
 use Rattle.field.specs.declared.Scan.{Scan}
-use Rattle.field.specs.Index.{indexFrom}
-use Rattle.table.proofs.Unique.{fault-of-once}
+use Rattle.field.specs.Look.{lookIn}
+use Rattle.table.proofs.Unique.{found-once}
 use Rattle.answer.specs.declared.Setup.{Setup}
 use Rattle.answer.specs.declared.Fault.{Fault}
 use Rattle.answer.specs.declared.Outcome.{Outcome}
@@ -18,7 +18,7 @@ use Rattle.wire.specs.declared.Say.{Say}
 use Rattle.wire.specs.declared.Reply.{Reply}
 use Rattle.session.specs.Session.{fresh, isOff, isOn, says, mayCall, ownCall, lineLost}
 use Rattle.session.specs.Judging.{rejected, passed, judgedBy, wordTag}
-use Rattle.session.specs.Indexed.{factsBy, numbered, facts}
+use Rattle.session.specs.Reading.{factsOf, numbered, facts}
 use Rattle.session.specs.declared.Own.{Own}
 use Rattle.session.specs.declared.Session.{Session}
 use Rattle.session.specs.declared.Findings.{Findings}
@@ -57,8 +57,8 @@ pub facts-once : (r r′ : Findings) → facts r ≡ facts r′ → r ≡ r′
 facts-once r r′ e = λ i. record {
   kind = e i .kind;
   seq = numbered-once (r .seq) (r′ .seq) (λ j. e j .seq) i;
-  ids = fault-of-once (r .ids) (r′ .ids) (λ j. e j .ids) i;
-  fault = fault-of-once (r .fault) (r′ .fault) (λ j. e j .fault) i;
+  ids = found-once (r .ids) (r′ .ids) (λ j. e j .ids) i;
+  fault = found-once (r .fault) (r′ .fault) (λ j. e j .fault) i;
   again = e i .again;
   filling = e i .filling;
   from = e i .from;
@@ -66,9 +66,9 @@ facts-once r r′ e = λ i. record {
   to = e i .to;
 }
 
-pub findings-of-once : (setup : Setup) (s : Session) (body : List ℕ) (scan : Scan) (start len count : List ℕ) (r r′ : Findings)
-    → facts r ≡ factsBy setup s body (indexFrom scan start len count) → facts r′ ≡ factsBy setup s body (indexFrom scan start len count) → r ≡ r′
-findings-of-once setup s body scan start len count r r′ p q = facts-once r r′ (p ∙ sym q)
+pub findings-of-once : (setup : Setup) (s : Session) (body index : List ℕ) (scan : Scan) (r r′ : Findings) → facts r ≡ factsOf setup s scan (lookIn body index)
+    → facts r′ ≡ factsOf setup s scan (lookIn body index) → r ≡ r′
+findings-of-once setup s body index scan r r′ p q = facts-once r r′ (p ∙ sym q)
 
 pub judge-once : (s : Session) (m : Findings) (r r′ : Verdict) → r ≡ judgedBy s (facts m) → r′ ≡ judgedBy s (facts m) → r ≡ r′
 judge-once s m r r′ p q = p ∙ sym q

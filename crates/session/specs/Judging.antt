@@ -1,18 +1,17 @@
--- "A framed message is judged in this order": steps 1 to 7 and the table's effects, by what is read off the message.
+-- "A framed message is judged in this order": steps 1 to 7 and the table's effects, by what is read off the message (Reading).
+--     1  "The first `34=` field is 1 to 999,999,998 .. Else Logout, ended": step1, with Reading's seqGiven
+--     2  "The first `49=` and then `56=` are the agreed IDs. Else Reject 9 ..": step2, with Reading's idsGiven
+--     3  "In phase 1: type A numbered E or more ..": step3; logon, welcomed
+--     4  "In 2 or 4: type 4 without `123=Y` ignores its number. Otherwise below E .. Above E: a gap ..": step4; resetMode, below, gap, due, answered
+--     5 to 7  the fault that Reading has from the table: inTurn rejects it (rejectedIf), logon ends the session by it
+--     then the table's column "Effect": effect; moved, loggedOut, gapFill
+-- They stand below in the order in which each needs the one before; judge, at the end, is all of them.
 use Prim.Native.Nat.{ℕ, _+_, _-_, min}
-use mathlib.Core.List.{List}
 use mathlib.Core.Option.{Option, none, some}
 use mathlib.Core.Bool.{Bool, true, false, cond, _&&_, _||_, not}
 use lib.Dec.{leb, ltb, eqb}
-use Rattle.octet.specs.Bytes.{bytesOf}
 use Rattle.octet.specs.Maybe.{isNone}
-use Rattle.value.specs.Readers.{numberRead}
-use Rattle.value.specs.declared.Number.{Number}
-use Rattle.value.specs.declared.Number.the-variants as number
-use Rattle.field.specs.Pieces.{Pieces, firstOf, isThat}
-use Rattle.table.specs.Rows.{kindIn}
-use Rattle.table.specs.Steps.{numberAt, faultIn}
-use Rattle.answer.specs.Setup.{ours, theirs}
+use Rattle.field.specs.Pieces.{Pieces}
 use Rattle.answer.specs.Numbers.{fault, isKind}
 use Rattle.answer.specs.declared.Setup.{Setup}
 use Rattle.answer.specs.declared.Phase.{Phase}
@@ -27,64 +26,11 @@ use Rattle.wire.specs.declared.Say.the-variants as say
 use Rattle.wire.specs.declared.Reply.{Reply}
 use Rattle.wire.specs.declared.Reply.the-variants.{Nothing, One, Two}
 use Rattle.session.specs.Session.{into, expecting, asking, raised, judged, isIn}
+use Rattle.session.specs.Reading.{Facts, factsIn}
 use Rattle.session.specs.declared.Session.{Session}
 use Rattle.session.specs.declared.Judged.{Judged}
 use Rattle.session.specs.declared.Verdict.{Verdict}
 use Rattle.session.specs.declared.Verdict.the-variants.{Settled, Report}
-
--- ---- what the steps read off a message
-
-pub record Facts : Type 0 where
-  -- its type, and its number where it has one (step 1)
-  pub kind : Kind
-  pub seq : Option ℕ
-  -- which ID is not the agreed one (step 2), and what is wrong by steps 5 to 7
-  pub ids : Option Fault
-  pub fault : Option Fault
-  -- `43=Y`, `123=Y`
-  pub again : Bool
-  pub filling : Bool
-  -- the numbers of 7, 16 and 36
-  pub from : ℕ
-  pub upTo : ℕ
-  pub to : ℕ
-
--- step 1: "The first `34=` field is 1 to 999,999,998, 1 to 9 digits"
-abbrev pub numberIf : Number → Option ℕ
-numberIf (number.Value n) = some n
-numberIf (number.BadForm at) = none
-numberIf number.OutOfRange = none
-
-abbrev pub seqGiven : Option (List ℕ) → Option ℕ
-seqGiven none = none
-seqGiven (some v) = numberIf (numberRead 1 999999998 v)
-
--- step 2: "The first `49=` and then `56=` are the agreed IDs"
-abbrev pub idsGiven : Setup → Option (List ℕ) → Option (List ℕ) → Option Fault
-idsGiven setup sender target =
-    cond (isThat (theirs setup) sender) (cond (isThat (ours setup) target) none (some (fault 9 56))) (some (fault 9 49))
-
-abbrev pub yes : Option (List ℕ) → Bool
-yes v = isThat (bytesOf "Y") v
-
--- all of them, by the first field of each tag, the number of each, the type and the fault of steps 5 to 7
-unfoldable pub factsOf : Setup → Kind → Option Fault → (ℕ → Option (List ℕ)) → (ℕ → ℕ) → Facts
-factsOf setup k f field value = record {
-  kind = k;
-  seq = seqGiven (field 34);
-  ids = idsGiven setup (field 49) (field 56);
-  fault = f;
-  again = yes (field 43);
-  filling = yes (field 123);
-  from = value 7;
-  upTo = value 16;
-  to = value 36;
-}
-
--- on the pieces of its body
-unfoldable pub factsIn : Setup → Session → Pieces → Facts
-factsIn setup s ps =
-    factsOf setup (kindIn setup ps) (faultIn setup (s .phase) (s .o) ps) (λ (tag : ℕ). firstOf tag ps) (λ (tag : ℕ). numberAt tag ps)
 
 -- ---- "Else Logout, ended"; "Else Reject 9 naming that tag, then Logout, ended"
 
@@ -147,14 +93,11 @@ abbrev pub gapFill : Session → Facts → Say
 gapFill s m = say.GapFill (m .from) (filledTo (s .o) (m .upTo))
 
 -- "Type 4 with 36 above E answers with 36 less the old E. At or below E it is Reject 5 tag 36, except equal to E in reset mode: heard, E stays."
-unfoldable pub movedTo : ℕ → Bool → Session → ℕ → Judged
-movedTo to reset s n =
+unfoldable pub moved : ℕ → Bool → Session → ℕ → Judged
+moved to reset s n =
     cond (ltb (s .e) to) (judged (Moved (to - s .e)) Nothing (expecting to s))
     (cond (eqb to (s .e) && reset) (judged Heard Nothing s)
     (rejectedIf reset s n (fault 5 36)))
-
-abbrev pub moved : Session → ℕ → Facts → Judged
-moved s n m = movedTo (m .to) (resetMode m) s n
 
 -- "Logout in phase 2, none in 4; ended"
 unfoldable pub loggedOut : Session → Judged
@@ -166,7 +109,7 @@ effect s n m kind.Logon = Settled (heard s)
 effect s n m kind.Heartbeat = Settled (heard s)
 effect s n m kind.Test = Settled (judged Echoed (One say.Echo) (raised s))
 effect s n m kind.Resend = Settled (judged Filled (One (gapFill s m)) (raised s))
-effect s n m kind.Reset = Settled (moved s n m)
+effect s n m kind.Reset = Settled (moved (m .to) (resetMode m) s n)
 effect s n m kind.Logout = Settled (loggedOut s)
 effect s n m kind.Report = Report n
 effect s n m kind.Other = Settled (heard s)
@@ -179,18 +122,12 @@ inTurn s n m none = effect s n m (m .kind)
 -- ---- step 4: in 2 or 4
 
 -- "below E: with `43=Y` dropped, else Logout, ended"
-abbrev pub belowIf : Bool → Session → Judged
-belowIf again s = cond again (judged Dropped Nothing s) (ended s)
-
 abbrev pub below : Session → Facts → Judged
-below s m = belowIf (m .again) s
+below s m = cond (m .again) (judged Dropped Nothing s) (ended s)
 
 -- "unless one was written for this same E and the message neither has `43=Y` nor is a Heartbeat"
-unfoldable pub dueBy : Session → Bool → Kind → Bool
-dueBy s again k = not (eqb (s .asked) (s .e)) || again || isKind k kind.Heartbeat
-
-abbrev pub due : Session → Facts → Bool
-due s m = dueBy s (m .again) (m .kind)
+unfoldable pub due : Session → Facts → Bool
+due s m = not (eqb (s .asked) (s .e)) || m .again || isKind (m .kind) kind.Heartbeat
 
 -- "A faultless Resend Request above E is answered first"
 abbrev pub answered : Facts → Bool

@@ -1,10 +1,10 @@
--- `session::filled_to` meets its contract.
+-- `session::judging::filled_to` meets its contract.
 use borrow.Author.Tests.{eq-eqb, ne-eqb}
 use native.Mathlib.Omega.{arith}
 use Rattle.session.specs.Judging.{filledTo}
 use borrow.Author.Needs.{needs}
-use Rattle.session.proofs.filled_to.Statement.{statement}
-use Rattle.session.proofs.filled_to.Tie as tie
+use Rattle.session.proofs.judging.filled_to.Statement.{statement}
+use Rattle.session.proofs.judging.filled_to.Tie as tie
 
 returns : tie.Need-returns
 unfolding filledTo

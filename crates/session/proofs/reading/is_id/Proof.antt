@@ -1,7 +1,7 @@
--- `session::is_id` meets its contract.
+-- `session::reading::is_id` meets its contract.
 use borrow.Author.Needs.{needs}
-use Rattle.session.proofs.is_id.Statement.{statement}
-use Rattle.session.proofs.is_id.Tie as tie
+use Rattle.session.proofs.reading.is_id.Statement.{statement}
+use Rattle.session.proofs.reading.is_id.Tie as tie
 
 returns : tie.Need-returns
 returns c = rw (c .same .ensures, c .before .part .ensures)

@@ -1,7 +1,7 @@
--- `session::is_reset` meets its contract.
+-- `session::judging::is_reset` meets its contract.
 use borrow.Author.Needs.{needs}
-use Rattle.session.proofs.is_reset.Statement.{statement}
-use Rattle.session.proofs.is_reset.Tie as tie
+use Rattle.session.proofs.judging.is_reset.Statement.{statement}
+use Rattle.session.proofs.judging.is_reset.Tie as tie
 
 returns : tie.Need-returns
 returns c = rw (← c .before .before .is-kind .ensures, c .before .if1 .taken)

@@ -1,8 +1,8 @@
--- `session::is_answered` meets its contract.
+-- `session::judging::is_answered` meets its contract.
 use borrow.Author.Tests.{not-true, not-false}
 use borrow.Author.Needs.{needs}
-use Rattle.session.proofs.is_answered.Statement.{statement}
-use Rattle.session.proofs.is_answered.Tie as tie
+use Rattle.session.proofs.judging.is_answered.Statement.{statement}
+use Rattle.session.proofs.judging.is_answered.Tie as tie
 
 returns : tie.Need-returns
 returns c = rw (← c .before .is-kind .ensures, not-true (c .before .is-kind .result) (c .if1 .taken))

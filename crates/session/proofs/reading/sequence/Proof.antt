@@ -1,9 +1,9 @@
--- `session::sequence` meets its contract.
+-- `session::reading::sequence` meets its contract.
 use borrow.Author.Tests.{eq-eqb, ne-eqb}
 use Rattle.session.proofs.Answers.{number-read}
 use borrow.Author.Needs.{needs}
-use Rattle.session.proofs.sequence.Statement.{statement}
-use Rattle.session.proofs.sequence.Tie as tie
+use Rattle.session.proofs.reading.sequence.Statement.{statement}
+use Rattle.session.proofs.reading.sequence.Tie as tie
 
 returns : tie.Need-returns
 returns c = rw (← c .before .count-at .ensures, eq-eqb _ _ (c .if1 .taken))

@@ -1,18 +1,17 @@
--- `session::findings_of` meets its contract: each of the findings is the fact of its name.
-use Rattle.session.specs.Judging.{factsOf}
-use Rattle.session.specs.Indexed.{factsBy}
+-- `session::reading::findings_of` meets its contract: each of the findings is the fact of its name.
+use Rattle.session.specs.Reading.{factsOf}
 use borrow.Author.Needs.{needs}
-use Rattle.session.proofs.findings_of.Statement.{statement}
-use Rattle.session.proofs.findings_of.Tie as tie
+use Rattle.session.proofs.reading.findings_of.Statement.{statement}
+use Rattle.session.proofs.reading.findings_of.Tie as tie
 
 returns : tie.Need-returns
-unfolding factsBy factsOf
+unfolding factsOf
 returns c =
     rw (
-      c .before .before .before .before .before .before .before .before .kind-in .ensures,
       c .before .before .before .before .before .before .before .sequence .ensures,
       c .before .before .before .before .before .before .ids-fault .ensures,
       c .before .before .before .before .before .fault-in .ensures,
+      c .before .before .before .before .before .before .before .before .kind-in .ensures,
       c .before .before .before .before .is-yes .ensures,
       c .before .before .before .is-yes2 .ensures,
       c .before .before .number-at .ensures .0,

@@ -1,8 +1,8 @@
--- `session::has_id` meets its contract.
+-- `session::reading::has_id` meets its contract.
 use borrow.Author.Tests.{eq-eqb, ne-eqb}
 use borrow.Author.Needs.{needs}
-use Rattle.session.proofs.has_id.Statement.{statement}
-use Rattle.session.proofs.has_id.Tie as tie
+use Rattle.session.proofs.reading.has_id.Statement.{statement}
+use Rattle.session.proofs.reading.has_id.Tie as tie
 
 returns : tie.Need-returns
 returns c = rw (← c .before .count-at .ensures, eq-eqb _ _ (c .if1 .taken))

@@ -1,7 +1,7 @@
--- `session::is_kind` meets its contract.
+-- `session::judging::is_kind` meets its contract.
 use borrow.Author.Needs.{needs}
-use Rattle.session.proofs.is_kind.Statement.{statement}
-use Rattle.session.proofs.is_kind.Tie as tie
+use Rattle.session.proofs.judging.is_kind.Statement.{statement}
+use Rattle.session.proofs.judging.is_kind.Tie as tie
 
 returns : tie.Need-returns
 returns c = rw (c .before .kind-number .ensures, c .kind-number2 .ensures)

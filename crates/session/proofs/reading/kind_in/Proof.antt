@@ -1,7 +1,7 @@
--- `session::kind_in` meets its contract.
+-- `session::reading::kind_in` meets its contract.
 use borrow.Author.Needs.{needs}
-use Rattle.session.proofs.kind_in.Statement.{statement}
-use Rattle.session.proofs.kind_in.Tie as tie
+use Rattle.session.proofs.reading.kind_in.Statement.{statement}
+use Rattle.session.proofs.reading.kind_in.Tie as tie
 
 returns : tie.Need-returns
 returns c = rw (c .kind-of .ensures, c .before .value-at .ensures)

@@ -1,8 +1,8 @@
--- `session::is_yes` meets its contract.
+-- `session::reading::is_yes` meets its contract.
 use borrow.Author.Tests.{eq-eqb, ne-eqb}
 use borrow.Author.Needs.{needs}
-use Rattle.session.proofs.is_yes.Statement.{statement}
-use Rattle.session.proofs.is_yes.Tie as tie
+use Rattle.session.proofs.reading.is_yes.Statement.{statement}
+use Rattle.session.proofs.reading.is_yes.Tie as tie
 
 returns : tie.Need-returns
 returns c = rw (← c .before .count-at .ensures, eq-eqb _ _ (c .if1 .taken))
