@@ -18,7 +18,7 @@ use Rattle.answer.specs.declared.Refusal.the-variants as refusal
 use Rattle.fill.specs.Slot.{Slot, slotWidth, lineOf}
 use Rattle.book.specs.Memory.{slotsIn}
 use Rattle.book.proofs.Slots.{slots-drop, slots-next, slots-last}
-use Rattle.note.specs.Notes.{Marks as MarksNote, noteBytes, longestNote}
+use Rattle.note.specs.Notes.{Acks, noteBytes, longestNote}
 use Rattle.queue.specs.declared.Marks.{Marks}
 use Rattle.queue.specs.declared.Offer.{Offer}
 use Rattle.queue.specs.declared.Offer.the-variants as offer
@@ -89,7 +89,7 @@ module _ (m : Marks) (n : ℕ) (note : List ℕ) where
   ack-already h k l =
       by-answer acknowledged.Already (rw (le-ltb (length note) longestNote h, le-ltb (m .offered) n k, le-leb n (m .acked) l))
 
-  pub ack-taken : longestNote ≤ length note → n ≤ m .offered → m .acked < n → Acked (acknowledged.Taken (ackedUpTo n m)) (splice note 0 (noteBytes (MarksNote n)))
+  pub ack-taken : longestNote ≤ length note → n ≤ m .offered → m .acked < n → Acked (acknowledged.Taken (ackedUpTo n m)) (splice note 0 (noteBytes (Acks n)))
   unfolding acknowledgedBy
   ack-taken h k l =
       by-answer (acknowledged.Taken (ackedUpTo n m)) (rw (le-ltb (length note) longestNote h, le-ltb (m .offered) n k, lt-leb n (m .acked) l))

@@ -8,7 +8,7 @@ use lib.Dec.{leb, ltb}
 use Rattle.octet.specs.Maybe.{first}
 use Rattle.octet.specs.Splice.{splice}
 use Rattle.fill.specs.Slot.{Slot, lineRoom, lineOf}
-use Rattle.note.specs.Notes.{Marks as MarksNote, noteBytes, longestNote}
+use Rattle.note.specs.Notes.{Acks, noteBytes, longestNote}
 use Rattle.answer.specs.declared.Refusal.the-variants as refusal
 use Rattle.queue.specs.declared.Marks.{Marks}
 use Rattle.queue.specs.declared.Offer.{Offer}
@@ -70,7 +70,7 @@ acknowledgedBy m n len =
     (cond (leb n (m .acked)) acknowledged.Already (acknowledged.Taken (ackedUpTo n m))))
 
 abbrev pub notedBy : List ℕ → ℕ → Acknowledged → List ℕ
-notedBy note n (acknowledged.Taken m) = splice note 0 (noteBytes (MarksNote n))
+notedBy note n (acknowledged.Taken m) = splice note 0 (noteBytes (Acks n))
 notedBy note n acknowledged.Already = note
 notedBy note n (acknowledged.Refused why) = note
 

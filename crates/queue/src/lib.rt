@@ -94,7 +94,7 @@ impl Marks {
         if n <= self.acked {
             return Acknowledged::Already;
         }
-        note::put_marks(note, n);
+        note::put_acks(note, n);
         Acknowledged::Taken(self.acked_up_to(n))
     }
 

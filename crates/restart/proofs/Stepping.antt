@@ -20,7 +20,7 @@ use Rattle.book.specs.Memory.{slotsIn, appended}
 use Rattle.book.specs.Place.{place, isNew, knownOrder, ordersWith, hasRoom, mostOrders}
 use Rattle.answer.specs.Numbers.{largest}
 use Rattle.book.proofs.Slots.{slots-length, slots-append, appended-length, joined-slots, Wide, none-wide, more-wide, slots-joined}
-use Rattle.note.specs.Notes.{Note, Leaves, Books, Marks, Clears, Reading, Whole, Part, Unknown, readNote, taken}
+use Rattle.note.specs.Notes.{Note, Raises, Books, Acks, Clears, Reading, Whole, Part, Unknown, readNote, sizeTaken}
 use Rattle.note.specs.Kept.{Kept, empty, bookable, top, lawful, after}
 use Rattle.note.proofs.Keeping.{Slotted, read-is, lawful-books, bookable-facts, room-fills, AllSlots, Sound}
 use Rattle.restart.specs.declared.Counts.{Counts}
@@ -33,14 +33,14 @@ use Rattle.restart.proofs.Going.{go, restart-go, go-end, go-part, go-un
 
 -- ---- lawful, test by test
 module _ (q : Kept) where
-  pub leaves-by : (e o : ℕ) {a b c d f : Bool} → ltb (q .e) e || ltb (q .o) o ≡ a → leb (q .e) e ≡ b → leb (q .o) o ≡ c → leb e top ≡ d → leb o top ≡ f
-      → a && b && c && d && f ≡ lawful q (Leaves e o)
+  pub raises-by : (e o : ℕ) {a b c d f : Bool} → ltb (q .e) e || ltb (q .o) o ≡ a → leb (q .e) e ≡ b → leb (q .o) o ≡ c → leb e top ≡ d → leb o top ≡ f
+      → a && b && c && d && f ≡ lawful q (Raises e o)
   unfolding lawful
-  leaves-by e o ea eb ec ed ef = cc
+  raises-by e o ea eb ec ed ef = cc
 
-  pub marks-by : (n : ℕ) {a b : Bool} → ltb (q .acked) n ≡ a → leb n (length (q .slots)) ≡ b → a && b ≡ lawful q (Marks n)
+  pub acks-by : (n : ℕ) {a b : Bool} → ltb (q .acked) n ≡ a → leb n (length (q .slots)) ≡ b → a && b ≡ lawful q (Acks n)
   unfolding lawful
-  marks-by n ea eb = cc
+  acks-by n ea eb = cc
 
   pub clears-by : {a : Bool} → eqb (q .acked) (length (q .slots)) ≡ a → a ≡ lawful q Clears
   unfolding lawful
@@ -86,13 +86,13 @@ module _ (m : Counts) (mem : List ℕ) where
   pub counts-kept : countsOf (keptIn m mem) ≡ m
   counts-kept = ap (λ (n : ℕ). counts (m .e) (m .o) n (m .orders) (m .acked)) fills-is
 
-  pub on-leaves : (e o : ℕ) → counts e o (m .fills) (m .orders) (m .acked) ≡ countsOf (after (keptIn m mem) (Leaves e o))
+  pub on-raises : (e o : ℕ) → counts e o (m .fills) (m .orders) (m .acked) ≡ countsOf (after (keptIn m mem) (Raises e o))
   unfolding after
-  on-leaves e o = ap (λ (n : ℕ). counts e o n (m .orders) (m .acked)) (sym fills-is)
+  on-raises e o = ap (λ (n : ℕ). counts e o n (m .orders) (m .acked)) (sym fills-is)
 
-  pub on-marks : (k : ℕ) → counts (m .e) (m .o) (m .fills) (m .orders) k ≡ countsOf (after (keptIn m mem) (Marks k))
+  pub on-acks : (k : ℕ) → counts (m .e) (m .o) (m .fills) (m .orders) k ≡ countsOf (after (keptIn m mem) (Acks k))
   unfolding after
-  on-marks k = ap (λ (n : ℕ). counts (m .e) (m .o) n (m .orders) k) (sym fills-is)
+  on-acks k = ap (λ (n : ℕ). counts (m .e) (m .o) n (m .orders) k) (sym fills-is)
 
   pub on-clears : countsOf empty ≡ countsOf (after (keptIn m mem) Clears)
   unfolding after
@@ -106,14 +106,14 @@ module _ (m : Counts) (mem : List ℕ) where
       ap₂ (λ (n x : ℕ). counts e o n x (m .acked)) l h
 
   -- the steps of S, K and D go by the counts alone
-  pub any-leaves : (e o : ℕ) → stepNote (bare m) (Leaves e o) ≡ stepNote (keptIn m mem) (Leaves e o)
+  pub any-raises : (e o : ℕ) → stepNote (bare m) (Raises e o) ≡ stepNote (keptIn m mem) (Raises e o)
   unfolding stepNote lawful after
-  any-leaves e o =
-      ap (λ (n : ℕ). cond (lawful (bare m) (Leaves e o)) (step.On (counts e o n (m .orders) (m .acked))) step.Bad) (slots-length (m .fills) [] ∙ sym fills-is)
+  any-raises e o =
+      ap (λ (n : ℕ). cond (lawful (bare m) (Raises e o)) (step.On (counts e o n (m .orders) (m .acked))) step.Bad) (slots-length (m .fills) [] ∙ sym fills-is)
 
-  pub any-marks : (k : ℕ) → stepNote (bare m) (Marks k) ≡ stepNote (keptIn m mem) (Marks k)
+  pub any-acks : (k : ℕ) → stepNote (bare m) (Acks k) ≡ stepNote (keptIn m mem) (Acks k)
   unfolding stepNote lawful after
-  any-marks k =
+  any-acks k =
       ap (λ (n : ℕ). cond (ltb (m .acked) k && leb k n) (step.On (counts (m .e) (m .o) n (m .orders) k)) step.Bad) (slots-length (m .fills) [] ∙ sym fills-is)
 
   pub any-clears : stepNote (bare m) Clears ≡ stepNote (keptIn m mem) Clears
@@ -125,7 +125,7 @@ module _ (m : Counts) (mem : List ℕ) where
 pub kept-after : (m : Counts) (mem : List ℕ) (note : Note) → length mem ≡ bookWidth → Slotted note → lawful (keptIn m mem) note ≡ true
     → keptIn (countsOf (after (keptIn m mem) note)) (memNote mem (keptIn m mem) note) ≡ after (keptIn m mem) note
 unfolding after memNote slotsIn
-kept-after m mem (Leaves e o) l w t = ap (λ (n : ℕ). kept e o (slotsIn n mem) (m .orders) (m .acked)) (fills-is m mem)
+kept-after m mem (Raises e o) l w t = ap (λ (n : ℕ). kept e o (slotsIn n mem) (m .orders) (m .acked)) (fills-is m mem)
 kept-after m mem (Books e o s) l w t =
     let q = keptIn m mem in
     let ss = slotsIn (m .fills) mem in
@@ -136,7 +136,7 @@ kept-after m mem (Books e o s) l w t =
     cond-true (lawful q (Books e o s)) (appended mem (length ss) s) mem t ∙ ap (λ (k : ℕ). appended mem k s) f in
     ap (λ (x : List Slot). kept e o x (ordersWith ss (m .orders) s) (m .acked))
     (ap₂ slotsIn n mem′ ∙ slots-append mem (m .fills) s (omega arith) (w .wide) l)
-kept-after m mem (Marks k) l w t = ap (λ (n : ℕ). kept (m .e) (m .o) (slotsIn n mem) (m .orders) k) (fills-is m mem)
+kept-after m mem (Acks k) l w t = ap (λ (n : ℕ). kept (m .e) (m .o) (slotsIn n mem) (m .orders) k) (fills-is m mem)
 kept-after m mem Clears l w t = refl
 
 -- ---- what a step says of the whole restart
@@ -148,7 +148,7 @@ module _ (m : Counts) (mem s : List ℕ) (at : ℕ) where
   q = keptIn m mem
 
   on-by : (next : Counts) (r : Reading) → length mem ≡ bookWidth → readNote s ≡ r → step.On next ≡ stepRead q r
-      → (go q at s ≡ go (keptIn next (memRead mem q r)) (at + taken r) (drop (taken r) s)) × (taken r ≤ length s) × (0 < taken r)
+      → (go q at s ≡ go (keptIn next (memRead mem q r)) (at + sizeTaken r) (drop (sizeTaken r) s)) × (sizeTaken r ≤ length s) × (0 < sizeTaken r)
   unfolding stepNote
   on-by next Part l e t = never cc
   on-by next Unknown l e t = never cc
@@ -165,7 +165,7 @@ module _ (m : Counts) (mem s : List ℕ) (at : ℕ) where
       (bool-case (lawful q note))
 
   pub on-goes : (next : Counts) → length mem ≡ bookWidth → step.On next ≡ stepRead q (readNote s)
-      → (go q at s ≡ go (keptIn next (memRead mem q (readNote s))) (at + taken (readNote s)) (drop (taken (readNote s)) s)) × (taken (readNote s) ≤ length s) × (0 < taken (readNote s))
+      → (go q at s ≡ go (keptIn next (memRead mem q (readNote s))) (at + sizeTaken (readNote s)) (drop (sizeTaken (readNote s)) s)) × (sizeTaken (readNote s) ≤ length s) × (0 < sizeTaken (readNote s))
   on-goes next l t = on-by next (readNote s) l refl t
 
   end-by : (r : Reading) → readNote s ≡ r → step.End ≡ stepRead q r → (go q at s ≡ Again q at) × (memRead mem q r ≡ mem)
@@ -211,7 +211,7 @@ start notes mem m e = restart-go notes ∙ ap (λ (k : Counts). go (keptIn k mem
 -- ---- a turn of the replay, at place `at` of the notes l, of which s is the rest, with o the answer
 module _ (l s : List ℕ) (o : Outcome) (m : Counts) (mem mem′ : List ℕ) (at : ℕ) where
   pub turn-on : {next : Counts} {n : ℕ} → s ≡ drop at l → o ≡ go (keptIn m mem) at (drop at l) → length mem ≡ bookWidth → at ≤ length l
-      → step.On next ≡ stepRead (keptIn m mem) (readNote s) → mem′ ≡ memRead mem (keptIn m mem) (readNote s) → n ≡ taken (readNote s)
+      → step.On next ≡ stepRead (keptIn m mem) (readNote s) → mem′ ≡ memRead mem (keptIn m mem) (readNote s) → n ≡ sizeTaken (readNote s)
       → (o ≡ go (keptIn next mem′) (at + n) (drop (at + n) l)) × (at + n ≤ length l) × (0 < n)
   turn-on {next} {n} es eo el h t em en =
       let g = on-goes m mem s at next el t in
@@ -244,10 +244,10 @@ pub mem-length : (mem : List ℕ) (q : Kept) (r : Reading) → length (memRead m
 unfolding memNote
 mem-length mem q Part = refl
 mem-length mem q Unknown = refl
-mem-length mem q (Whole (Leaves e o) n) = refl
+mem-length mem q (Whole (Raises e o) n) = refl
 mem-length mem q (Whole (Books e o s) n) =
     of-cond (λ (l : List ℕ). length l ≡ length mem) (lawful q (Books e o s)) (λ t. appended-length mem (length (q .slots)) s) (λ t. refl)
-mem-length mem q (Whole (Marks k) n) = refl
+mem-length mem q (Whole (Acks k) n) = refl
 mem-length mem q (Whole Clears n) = refl
 
 -- ---- the step of a note that is read
@@ -260,13 +260,13 @@ pub take-books : {e o k : ℕ} {x y : Slot} {r : Step} {mem′ : List ℕ} (q : 
 take-books {e} {o} q mem s ex er es em =
     take-whole q mem s er (es ∙ ap (λ (z : Slot). stepNote q (Books e o z)) ex) (em ∙ ap (λ (z : Slot). memNote mem q (Books e o z)) ex)
 
-pub mem-leaves : (mem : List ℕ) (q : Kept) (e o : ℕ) → mem ≡ memNote mem q (Leaves e o)
+pub mem-raises : (mem : List ℕ) (q : Kept) (e o : ℕ) → mem ≡ memNote mem q (Raises e o)
 unfolding memNote
-mem-leaves mem q e o = refl
+mem-raises mem q e o = refl
 
-pub mem-marks : (mem : List ℕ) (q : Kept) (n : ℕ) → mem ≡ memNote mem q (Marks n)
+pub mem-acks : (mem : List ℕ) (q : Kept) (n : ℕ) → mem ≡ memNote mem q (Acks n)
 unfolding memNote
-mem-marks mem q n = refl
+mem-acks mem q n = refl
 
 pub mem-clears : (mem : List ℕ) (q : Kept) → mem ≡ memNote mem q Clears
 unfolding memNote

@@ -6,7 +6,7 @@ use mathlib.Core.Path.{_≡_}
 use lib.ListN.{length}
 use lib.Dec.{leb, ltb, eqb}
 use Rattle.book.specs.Memory.{slotsIn, appended}
-use Rattle.note.specs.Notes.{Note, Leaves, Books, Marks, Clears, Reading, Whole, Part, Unknown}
+use Rattle.note.specs.Notes.{Note, Raises, Books, Acks, Clears, Reading, Whole, Part, Unknown}
 use Rattle.note.specs.Kept.{Kept, top, lawful, after}
 use Rattle.restart.specs.Restart.{Outcome, Again, Unlawful, countsOf}
 use Rattle.restart.specs.declared.Counts.{Counts}
@@ -39,9 +39,9 @@ stepRead q Unknown = step.Bad
 
 -- the memory after it: one slot more where a fill is booked
 unfoldable pub memNote : List ℕ → Kept → Note → List ℕ
-memNote mem q (Leaves e o) = mem
+memNote mem q (Raises e o) = mem
 memNote mem q (Books e o s) = cond (lawful q (Books e o s)) (appended mem (length (q .slots)) s) mem
-memNote mem q (Marks n) = mem
+memNote mem q (Acks n) = mem
 memNote mem q Clears = mem
 
 abbrev pub memRead : List ℕ → Kept → Reading → List ℕ

@@ -4,7 +4,7 @@ ghost use mathlib.Core.Path.{_≡_};
 ghost use Prim.Native.Nat.{_+_, _≤_};
 ghost use lib.ListN.{length};
 ghost use Rattle.fill.specs.Slot.{bookWidth};
-ghost use Rattle.note.specs.Notes.{Leaves, Books, Marks, Clears, readNote};
+ghost use Rattle.note.specs.Notes.{Raises, Books, Acks, Clears, readNote};
 ghost use Rattle.note.specs.Kept.{lawful, empty};
 ghost use Rattle.restart.specs.Restart.{restart, told, bookAfter, countsOf};
 ghost use Rattle.restart.specs.Steps.{keptIn, bare, raised, isNext, stepNote, stepRead, memNote, memRead, HasSlots};
@@ -49,8 +49,8 @@ fn raises(m: Counts, e: u32, o: u32) -> bool
 }
 
 // "S raises E or O, lowers neither, both at most 999,999,999".
-fn leaves_lawful(m: Counts, e: u32, o: u32) -> bool
-    ensures { λ r. ⌜ r ≡ lawful (bare m) (Leaves e o) ⌝ }
+fn raises_lawful(m: Counts, e: u32, o: u32) -> bool
+    ensures { λ r. ⌜ r ≡ lawful (bare m) (Raises e o) ⌝ }
 {
     if !raises(m, e, o) {
         return false;
@@ -67,10 +67,10 @@ fn leaves_lawful(m: Counts, e: u32, o: u32) -> bool
     o <= TOP
 }
 
-fn step_leaves(m: Counts, e: u32, o: u32) -> Step
-    ensures { λ r. ⌜ r ≡ stepNote (bare m) (Leaves e o) ⌝ }
+fn step_raises(m: Counts, e: u32, o: u32) -> Step
+    ensures { λ r. ⌜ r ≡ stepNote (bare m) (Raises e o) ⌝ }
 {
-    if !leaves_lawful(m, e, o) {
+    if !raises_lawful(m, e, o) {
         return Step::Bad;
     }
     Step::On(Counts {
@@ -83,8 +83,8 @@ fn step_leaves(m: Counts, e: u32, o: u32) -> Step
 }
 
 // "K is above the mark and at most the last fill".
-fn step_marks(m: Counts, n: u32) -> Step
-    ensures { λ r. ⌜ r ≡ stepNote (bare m) (Marks n) ⌝ }
+fn step_acks(m: Counts, n: u32) -> Step
+    ensures { λ r. ⌜ r ≡ stepNote (bare m) (Acks n) ⌝ }
 {
     if n <= m.acked {
         return Step::Bad;
@@ -179,9 +179,9 @@ fn take_note(mem: &mut [u8; BOOK], m: Counts, s: &[u8]) -> Step
     ensures { λ r. ⌜ (r ≡ stepRead (keptIn m (now (mem .entry))) (readNote (now (s .entry)))) × (now (mem .exit) ≡ memRead (now (mem .entry)) (keptIn m (now (mem .entry))) (readNote (now (s .entry)))) ⌝ }
 {
     match note::read_note(s) {
-        Read::Leaves(e, o) => step_leaves(m, e, o),
+        Read::Raises(e, o) => step_raises(m, e, o),
         Read::Books(e, o) => step_books(mem, m, e, o, &note::slot_in_note(s)),
-        Read::Marks(n) => step_marks(m, n),
+        Read::Acks(n) => step_acks(m, n),
         Read::Clears => step_clears(m),
         Read::Part => Step::End,
         Read::Unknown => Step::Bad,

@@ -6,7 +6,7 @@ use denote.Ref.{now}
 use Rattle.note.proofs.Asking.{untold, was-read}
 use Rattle.restart.specs.Restart.{restart}
 use Rattle.restart.specs.Steps.{keptIn, stepRead, memRead}
-use Rattle.restart.proofs.Stepping.{any-leaves, any-marks, any-clears, take-whole, take-books, mem-leaves, mem-marks, mem-clears}
+use Rattle.restart.proofs.Stepping.{any-raises, any-acks, any-clears, take-whole, take-books, mem-raises, mem-acks, mem-clears}
 use Rattle.restart.proofs.take_note.Statement.{statement}
 use Rattle.restart.proofs.take_note.Tie as tie
 
@@ -17,7 +17,7 @@ returns c =
     let s = now (a .s) in
     let q = keptIn (a .m) m in
     let r = was-read s _ (c .before .before .before .before .read-note .ensures) ∙ ap (untold s) (c .before .before .e .given .1) in
-    take-whole q m s r (c .step-leaves .ensures ∙ any-leaves (a .m) m _ _) (mem-leaves m q _ _)
+    take-whole q m s r (c .step-raises .ensures ∙ any-raises (a .m) m _ _) (mem-raises m q _ _)
 
 returns-2 : tie.Need-returns-2
 returns-2 c =
@@ -35,7 +35,7 @@ returns-3 c =
     let s = now (a .s) in
     let q = keptIn (a .m) m in
     let r = was-read s _ (c .before .before .before .before .read-note .ensures) ∙ ap (untold s) (c .before .before .n .given .1) in
-    take-whole q m s r (c .step-marks .ensures ∙ any-marks (a .m) m _) (mem-marks m q _)
+    take-whole q m s r (c .step-acks .ensures ∙ any-acks (a .m) m _) (mem-acks m q _)
 
 returns-4 : tie.Need-returns-4
 returns-4 c =

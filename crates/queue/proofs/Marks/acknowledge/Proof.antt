@@ -40,7 +40,7 @@ returns-4 c =
     let s = a .self in
     let d = now (a .note) in
     let g = ack-taken s (a .n) d (omega arith) (omega arith) (omega arith) in
-    (ap acknowledged.Taken (c .acked-up-to .ensures) ∙ g .0, refl, c .before .before .before .put-marks .ensures .1 ∙ g .1)
+    (ap acknowledged.Taken (c .acked-up-to .ensures) ∙ g .0, refl, c .before .before .before .put-acks .ensures .1 ∙ g .1)
 
 pub acknowledge-spec : {M : Type 1} → statement M
 acknowledge-spec =
