@@ -2,10 +2,8 @@
 use super::World;
 use super::script::Ask;
 use super::script::Ledger;
-use answer::Setup;
 use fill::BOOK;
 use receiver::Received;
-use receiver::State;
 use receiver::Told;
 use session::Own;
 use tally::Tally;
@@ -19,14 +17,9 @@ pub(crate) fn between(s: &[u8], a: usize, b: usize) -> &[u8] {
 }
 
 // Our own calls.
-fn own_call(
-    setup: Setup,
-    st: State,
-    own: Own,
-    time: &[u8],
-    reply: &mut [u8],
-    note: &mut [u8],
-) -> Told {
+fn own_call(w: World, own: Own, time: &[u8], reply: &mut [u8], note: &mut [u8]) -> Told {
+    let setup = w.setup;
+    let st = w.state;
     match own {
         Own::Open => receiver::open(setup, st, time, reply, note),
         Own::Beat => receiver::heartbeat(setup, st, time, reply, note),
@@ -37,13 +30,14 @@ fn own_call(
 
 // The ledger's calls, the new day and the restart.
 fn ledger_call(
-    st: State,
+    w: World,
     ask: Ledger,
     bytes: &[u8],
     book: &mut [u8; BOOK],
     note: &mut [u8],
     listed: &mut [u8],
 ) -> Told {
+    let st = w.state;
     match ask {
         Ledger::Offer => receiver::offer(st, book, listed),
         Ledger::Again => receiver::begin_again(st),
@@ -72,16 +66,13 @@ pub(crate) fn hand(
     let st = w.state;
     let tally = w.tally;
     match ask {
-        Ask::Own(own, end) => beside(
-            own_call(setup, st, own, between(bytes, 0, end), reply, note),
-            tally,
-        ),
+        Ask::Own(own, end) => beside(own_call(w, own, between(bytes, 0, end), reply, note), tally),
         Ask::Lost => beside(receiver::line_lost(st), tally),
         Ask::Message(middle, end) => {
             let time = between(bytes, 0, middle);
             let given = between(bytes, middle, end);
             receiver::message(setup, st, tally, time, given, book, reply, note)
         }
-        Ask::Ledger(ask) => beside(ledger_call(st, ask, bytes, book, note, listed), tally),
+        Ask::Ledger(ask) => beside(ledger_call(w, ask, bytes, book, note, listed), tally),
     }
 }
