@@ -57,7 +57,7 @@ use Rattle.receiver.specs.declared.Answer.{Answer}
 use Rattle.receiver.specs.declared.Answer.the-variants as answer
 use Rattle.promise.specs.Sort.{sortOf}
 use Rattle.promise.specs.World.{world}
-use Rattle.promise.specs.WrittenRead.{MessagesReadBack, Writable, NotesReadBack, Leads, Messages, fieldsIn, givenTime, wordIn, wordOf, hasReject, isRejected, Replies, CallsReadBack}
+use Rattle.promise.specs.WrittenRead.{MessagesReadBack, Writable, NotesReadBack, Leads, Messages, fieldsIn, stampOf, wordIn, wordOf, hasReject, isRejected, Replies, CallsReadBack}
 use Rattle.promise.proofs.Executions.{or-false}
 use Rattle.promise.proofs.Acts.{may-write}
 use Rattle.promise.proofs.Good.{safe-live, good}
@@ -295,10 +295,10 @@ bare setup st (Restart notes) h = again-bare st (restart notes)
 
 module _ (setup : Setup) (st : State) (b : Lent) (ids : Agreed setup) (sound : Sound (st .kept)) where
   abbrev Fine : What → Did → Type 0
-  Fine w d = Replies setup (st .kept .o) (givenTime w) (wordOf w) d
+  Fine w d = Replies setup (st .kept .o) (stampOf w) (wordOf w) d
 
   nothing-said : (w : What) (d : Did) → d .reply ≡ [] → isRejected (d .answer) ≡ false → Fine w d
-  nothing-said w d e h = replies-nothing setup (st .kept .o) (givenTime w) (wordOf w) d e h
+  nothing-said w d e h = replies-nothing setup (st .kept .o) (stampOf w) (wordOf w) d e h
 
   o-fits : (time : List ℕ) (allowed : Bool) → writing b time allowed (st .kept .o) ≡ none → st .kept .o < 2 ^ 32
   o-fits time allowed h = let x = may-write b time allowed (st .kept .o) h .1 in omega arith

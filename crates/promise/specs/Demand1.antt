@@ -1,4 +1,4 @@
--- THE FIRST DEMAND: "Call refusals. Nothing changes, lent buffers included. Checked in this order". The table, row by row, of any call.
+-- THE FIRST DEMAND: "Call refusals. Nothing changes, lent buffers included. Checked in this order". The table, row by row, of any call; and row 9, of setting up.
 use Prim.Native.Nat.{ℕ}
 use mathlib.Core.Path.{_≡_}
 use mathlib.Core.Logic.{_↔_}
@@ -7,8 +7,9 @@ use mathlib.Core.Option.{Option, none, some}
 use mathlib.Core.Bool.{Bool, true, false, _&&_, _||_, not}
 use lib.ListN.{length}
 use lib.Dec.{ltb, eqb}
+use Rattle.octet.specs.Bytes.{between, allIn}
 use Rattle.octet.specs.Maybe.{orElse}
-use Rattle.value.specs.Value.{isTime}
+use Rattle.value.specs.Value.{isTime, among}
 use Rattle.frame.specs.Finding.{foundIn, bodyIn}
 use Rattle.frame.specs.declared.Found.{Found}
 use Rattle.frame.specs.declared.Found.the-variants as found
@@ -29,7 +30,8 @@ use Rattle.session.specs.declared.Verdict.{Verdict}
 use Rattle.session.specs.declared.Verdict.the-variants as verdict
 use Rattle.tally.specs.declared.Tally.{Tally}
 use Rattle.receiver.specs.State.{State, Did, sessionOf, seen, stored, replyAfter, noteAfter, lineAfter, bookAfter}
-use Rattle.receiver.specs.Receiver.{What, Message, Restart, Lent, refuse, call}
+use Rattle.receiver.specs.Receiver.{What, Message, Restart, Lent, refuse, call, settingUp}
+use Rattle.receiver.specs.Steps.{leaveOf}
 use Rattle.receiver.specs.declared.State.{State as Stored}
 use Rattle.receiver.specs.declared.Answer.{Answer}
 use Rattle.promise.specs.Sort.{whereGiven, Buffers, sortOf, tellsOf}
@@ -53,12 +55,8 @@ abbrev pub badTime : What → Bool
 badTime w = whereGiven false noTime (sortOf w .time)
 
 -- "3: wrong phase; a message needs 1, 2 or 4"
-abbrev pub among : ℕ → List ℕ → Bool
-among n [] = false
-among n (m ∷ ms) = eqb n m || among n ms
-
 abbrev pub wrongPhase : State → What → Bool
-wrongPhase st w = not (among (phaseNumber (st .phase)) (sortOf w .phases))
+wrongPhase st w = not (among (sortOf w .phases) (phaseNumber (st .phase)))
 
 -- "4: a call that can write messages, O above 999,999,997"
 abbrev pub numbersUsed : State → What → Bool
@@ -105,7 +103,7 @@ unlawfulIn (Unlawful at) = some (refusal.Unlawful at)
 abbrev pub unlawfulNote : What → Option Refusal
 unlawfulNote w = whereGiven none (λ (notes : List ℕ). unlawfulIn (restart notes)) (sortOf w .notes)
 
--- ---- the table: of each row the refusal, where it holds. 9 is of setting up, before there is a state
+-- ---- the table: of each row the refusal, where it holds. 9 is of setting up, before there is a state: see below
 
 abbrev pub above5 : State → Lent → What → List (Option Refusal)
 above5 st b w =
@@ -161,5 +159,15 @@ pub record Demand1 (setup : Setup) (st : State) (b : Lent) (t : Tally) (w : What
   pub room : (time s : List ℕ) → w ≡ Message time s → (refusedWith (call setup st b t w .did .answer) ≡ some refusal.NoRoom)
       ↔ ((firstThere (above5 st b w) ≡ none)
       × ((len : ℕ) × Bookable setup st s len × (hasRoom (st .kept .slots) (st .kept .orders) (slotIn (piecesOf (bodyIn len s))) ≡ false)))
-  -- "unlawful note" exactly where the restart finds one, with its place
+  -- "unlawful note" exactly where `restart` finds one, with the place that it finds
   pub note : (notes : List ℕ) (at : ℕ) → w ≡ Restart notes → (refusedWith (call setup st b t w .did .answer) ≡ some (refusal.Unlawful at)) ↔ (restart notes ≡ Unlawful at)
+
+-- ---- setting up
+
+-- "9: an agreed ID not 1 to 16 bytes of 33 to 126"
+abbrev pub badId : List ℕ → Bool
+badId id = not (between 1 16 (length id) && allIn 33 126 id)
+
+-- it is refused exactly where one of the two is such an ID
+abbrev pub SetUpRefused : List ℕ → List ℕ → Type 0
+SetUpRefused ours theirs = settingUp ours theirs .leave ≡ leaveOf (refuse refusal.BadId (badId ours || badId theirs))

@@ -40,7 +40,7 @@ pub record InTurn (setup : Setup) (st : State) (ps : Pieces) : Type 0 where
   pub faultless : faultIn setup (st .phase) (st .kept .o) ps ≡ none
   pub type : kindIn setup ps ≡ kind.Report
 
--- it keeps the four rules, has no 442, and is new among the day's fills
+-- it keeps the four rules, has no 442, and among the day's fills its ExecID is new and its order, where known, has the same symbol and side
 pub record Fresh (st : State) (ps : Pieces) : Type 0 where
   pub rules : ruleFault (reportIn ps) ≡ none
   pub aside : firstOf 442 ps ≡ none
