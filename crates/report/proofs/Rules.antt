@@ -14,6 +14,7 @@ use Rattle.octet.proofs.Cases.{true-not-false}
 use Rattle.value.specs.Value.{priceIn}
 use Rattle.field.specs.Look.{Look}
 use Rattle.table.specs.Steps.{numberOf}
+use Rattle.parts.specs.Parts.{laid}
 use Rattle.fill.specs.Slot.{fillOf, bodyOf, slotOf}
 use Rattle.report.specs.declared.Sums.{Sums}
 use Rattle.report.specs.Report.{reportWith, rule14, rule151, rule150, rule39, unlessKept, ruleFault, slotFor}
@@ -44,5 +45,5 @@ pub slot-read : (look : Look) {r exec order symbol time : List ℕ} {side price 
     → r ≡ slotOf (bodyOf (fillOf exec order symbol side quantity shares price cum time))
     → exec ≡ look .text 17 → order ≡ look .text 37 → symbol ≡ look .text 55 → side ≡ numberOf look 54 % 256 → quantity ≡ numberOf look 38
     → shares ≡ numberOf look 32 → price ≡ priceIn (look .text 31) → cum ≡ numberOf look 14 → time ≡ look .text 60 → r ≡ slotFor look
-unfolding slotFor bodyOf
+unfolding slotFor bodyOf laid
 slot-read look er ee eo ey ed eq es ep ec et = er ∙ rw (ee, eo, ey, ed, eq, es, ep, ec, et, one-place (numberOf look 54))
