@@ -8,18 +8,20 @@
 --     admit-is     what becomes of a fill is decided by its placement
 --     admit-clash, admit-already, admit-full, admit-new     and what it is in each case
 --     admitted-clash, admitted-already, admitted-full, admitted-new     what an answer says of placement and room
-use mathlib.Core.Path.{_≡_, refl, sym, ap, ap₂, _∙_}
+use mathlib.Core.Path.{_≡_, refl, sym, ap, ap₂, _∙_, subst}
 use mathlib.Core.List.{List, [], _∷_}
 use mathlib.Core.Option.{Option, some}
 use mathlib.Core.Bool.{Bool, true, false, cond, not, _&&_, _||_}
 use Prim.Native.Nat.{ℕ, suc, _+_, _≤_, _<_, min}
+use mathlib.Core.Logic.{⊎-elim}
+use native.Mathlib.Nat.{min-eq-left}
 use native.Mathlib.Omega.{arith}
 use lib.ListN.{length}
 use lib.Dec.{ltb, eqb}
 use borrow.Author.Tests.{lt-ltb, le-ltb, ltb-true, ne-eqb}
 use Rattle.octet.specs.Bytes.{same}
 use Rattle.octet.specs.Maybe.{find, isNone}
-use Rattle.octet.proofs.Cases.{cond-true, cond-false, of-cond, and-left, and-right}
+use Rattle.octet.proofs.Cases.{cond-true, cond-false, of-cond, or-cases, and-left, and-right}
 use Rattle.answer.specs.Numbers.{fault, largest, counted}
 use Rattle.answer.specs.declared.Fault.{Fault}
 use Rattle.fill.specs.Slot.{Slot, isFill, orderOf, sharesOf, priceOf, cumOf}
@@ -168,9 +170,15 @@ booking-fills ss fills orders f h =
     let r = has-room ss fills orders f h .few-fills in
     of-cond (λ (n : ℕ). min n largest ≡ n) (isFill f) (λ e. omega arith) (λ e. omega arith)
 
-pub booking-orders : (ss : List Slot) (fills orders : ℕ) (f : Slot) → bookingOf ss fills orders f .orders ≡ min (ordersWith ss orders f) largest
-unfolding bookingOf
-booking-orders ss fills orders f = refl
+pub booking-orders : (ss : List Slot) (fills orders : ℕ) (f : Slot) → orders ≤ largest → hasRoom ss fills orders f ≡ true → bookingOf ss fills orders f .orders ≡ ordersWith ss orders f
+unfolding bookingOf ordersWith
+booking-orders ss fills orders f h r =
+    min-eq-left
+    (⊎-elim
+    (λ k. subst (λ (x : ℕ). x ≤ largest) (sym (cond-true (knownOrder ss f) orders (orders + 1) k)) h)
+    (λ k. (let b = ltb-true orders mostOrders k in
+    of-cond (λ (x : ℕ). x ≤ largest) (knownOrder ss f) (λ e. h) (λ e. omega arith)))
+    (or-cases (knownOrder ss f) (ltb orders mostOrders) (has-room ss fills orders f r .order-left)))
 
 -- ---- placement, from what a walk found
 pub placed-by : (ss : List Slot) (f twin known : Slot) (r : Placed) → someSlot twin ≡ find (sameExec f) ss → someSlot known ≡ find (sameOrder f) ss

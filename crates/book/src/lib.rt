@@ -407,9 +407,10 @@ pub fn append(book: &mut [u8; BOOK], count: usize, slot: &[u8]) -> bool
     octet::copy_into(book, place_of(count), slot)
 }
 
-// Puts the first count slots of another memory into this one; past them it stays.
+// Puts the first count slots of another memory into this one; past them it stays. A lent memory has BOOK bytes.
 pub fn put_slots(book: &mut [u8; BOOK], count: usize, from: &[u8; BOOK])
     ensures { λ r. ⌜ now (book .exit) ≡ holding (now (book .entry)) (slotsIn count (now (from .entry))) ⌝ }
+    ensures { λ r. ⌜ length (now (book .entry)) ≡ bookWidth ⌝ }
 {
     octet::copy_into(
         book,

@@ -1,5 +1,6 @@
 -- "The queue": offer, begin-again, acknowledge and new day, over the marks and the day's slots, with refusals 1, 6 and 7.
 use Prim.Native.Nat.{ℕ, _+_}
+use mathlib.Core.Path.{_≡_}
 use mathlib.Core.List.{List}
 use mathlib.Core.Option.{Option, none, some}
 use mathlib.Core.Bool.{Bool, cond}
@@ -7,8 +8,12 @@ use lib.ListN.{length, drop}
 use lib.Dec.{leb, ltb}
 use Rattle.octet.specs.Maybe.{first}
 use Rattle.octet.specs.Splice.{splice}
-use Rattle.fill.specs.Slot.{Slot, lineRoom, lineOf}
-use Rattle.note.specs.Notes.{Acks, noteBytes, longestNote}
+use Rattle.answer.specs.Numbers.{counted}
+use Rattle.answer.specs.declared.Setup.{Setup}
+use Rattle.fill.specs.Slot.{Slot, lineLeast, lineOf}
+use Rattle.book.specs.Memory.{slotsIn}
+use Rattle.note.specs.Kinds.{noteLeast}
+use Rattle.note.specs.Notes.{Acks, noteBytes}
 use Rattle.answer.specs.declared.Refusal.the-variants as refusal
 use Rattle.queue.specs.declared.Marks.{Marks}
 use Rattle.queue.specs.declared.Offer.{Offer}
@@ -19,23 +24,28 @@ use Rattle.queue.specs.declared.Day.{Day}
 use Rattle.queue.specs.declared.Day.the-variants as day
 
 abbrev pub noMarks : Marks
-noMarks = record { fills = 0; orders = 0; acked = 0; offered = 0 }
+noMarks = record { last = 0; fills = 0; orders = 0; acked = 0; offered = 0 }
+
+-- "After a restart .. offered equals acknowledged"
+abbrev pub marksAgain : ℕ → ℕ → ℕ → ℕ → Marks
+marksAgain last fills orders acked = record { last = last; fills = fills; orders = orders; acked = acked; offered = acked }
+
+-- one number more is given, and what there are then is counted
+abbrev pub oneMore : ℕ → ℕ → Marks → Marks
+oneMore fills orders m = record { last = counted (m .last) 1; fills = fills; orders = orders; acked = m .acked; offered = m .offered }
 
 abbrev pub offeredUpTo : ℕ → Marks → Marks
-offeredUpTo n m = record { fills = m .fills; orders = m .orders; acked = m .acked; offered = n }
+offeredUpTo n m = record { last = m .last; fills = m .fills; orders = m .orders; acked = m .acked; offered = n }
 
 abbrev pub ackedUpTo : ℕ → Marks → Marks
-ackedUpTo n m = record { fills = m .fills; orders = m .orders; acked = n; offered = m .offered }
+ackedUpTo n m = record { last = m .last; fills = m .fills; orders = m .orders; acked = n; offered = m .offered }
 
 -- "1: .. note buffer under 102, or line buffer under 128 bytes"
-abbrev pub leastLine : ℕ
-leastLine = lineRoom
+abbrev pub shortLine : Setup → ℕ → Bool
+shortLine setup len = ltb len (lineLeast setup)
 
-abbrev pub shortLine : ℕ → Bool
-shortLine len = ltb len leastLine
-
-abbrev pub shortNote : ℕ → Bool
-shortNote len = ltb len longestNote
+abbrev pub shortNote : Setup → ℕ → Bool
+shortNote setup len = ltb len (noteLeast setup)
 
 -- ---- "Offer writes the fill after the last offered one as its line of the listing below, with a line feed, or, only where there is no such fill, says none"
 
@@ -46,15 +56,20 @@ abbrev pub givenLine : Marks → Option Slot → Offer
 givenLine m none = offer.Nothing
 givenLine m (some s) = offer.Given (offeredUpTo (m .offered + 1) m) (length (lineOf (m .offered + 1) s))
 
-unfoldable pub offered : Marks → List Slot → ℕ → Offer
-offered m ss len = cond (shortLine len) (offer.Refused refusal.ShortBuffer) (givenLine m (nextOffer (m .offered) ss))
+unfoldable pub offered : Setup → Marks → List Slot → ℕ → Offer
+offered setup m ss len = cond (shortLine setup len) (offer.Refused refusal.ShortBuffer) (givenLine m (nextOffer (m .offered) ss))
 
 abbrev pub writtenLine : List ℕ → Marks → Option Slot → List ℕ
 writtenLine line m none = line
 writtenLine line m (some s) = splice line 0 (lineOf (m .offered + 1) s)
 
-unfoldable pub lineAfter : Marks → List Slot → List ℕ → List ℕ
-lineAfter m ss line = cond (shortLine (length line)) line (writtenLine line m (nextOffer (m .offered) ss))
+unfoldable pub lineAfter : Setup → Marks → List Slot → List ℕ → List ℕ
+lineAfter setup m ss line = cond (shortLine setup (length line)) line (writtenLine line m (nextOffer (m .offered) ss))
+
+-- what is answered, and what stands in the line
+abbrev pub Offers : Setup → Marks → List ℕ → List ℕ → Offer → List ℕ → Type 0
+Offers setup m book line r line′ =
+    (r ≡ offered setup m (slotsIn (m .last) book) (length line)) × (line′ ≡ lineAfter setup m (slotsIn (m .last) book) line)
 
 -- ---- "Begin-again sets the offered mark back to the acknowledged one"
 
@@ -63,9 +78,9 @@ begunAgain m = offeredUpTo (m .acked) m
 
 -- ---- "Acknowledge n takes all fills up to n; n at or below the mark is already, no change"; refusal 6: "acknowledge above the offered mark"
 
-unfoldable pub acknowledgedBy : Marks → ℕ → ℕ → Acknowledged
-acknowledgedBy m n len =
-    cond (shortNote len) (acknowledged.Refused refusal.ShortBuffer)
+unfoldable pub acknowledgedBy : Setup → Marks → ℕ → ℕ → Acknowledged
+acknowledgedBy setup m n len =
+    cond (shortNote setup len) (acknowledged.Refused refusal.ShortBuffer)
     (cond (ltb (m .offered) n) (acknowledged.Refused refusal.NotOffered)
     (cond (leb n (m .acked)) acknowledged.Already (acknowledged.Taken (ackedUpTo n m))))
 
@@ -74,10 +89,14 @@ notedBy note n (acknowledged.Taken m) = splice note 0 (noteBytes (Acks n))
 notedBy note n acknowledged.Already = note
 notedBy note n (acknowledged.Refused why) = note
 
-unfoldable pub noteAfter : Marks → ℕ → List ℕ → List ℕ
-noteAfter m n note = notedBy note n (acknowledgedBy m n (length note))
+unfoldable pub noteAfter : Setup → Marks → ℕ → List ℕ → List ℕ
+noteAfter setup m n note = notedBy note n (acknowledgedBy setup m n (length note))
+
+-- what is answered, and what stands in the book and in the note
+abbrev pub Acknowledges : Setup → Marks → ℕ → List ℕ → List ℕ → Acknowledged → List ℕ → List ℕ → Type 0
+Acknowledges setup m n book note r book′ note′ = (r ≡ acknowledgedBy setup m n (length note)) × (book′ ≡ book) × (note′ ≡ noteAfter setup m n note)
 
 -- ---- "New day (phase 0 or 3, nothing waiting) gives the fresh, empty state"; refusal 7: "new day with fills waiting"
 
 unfoldable pub newDay : Marks → Day
-newDay m = cond (ltb (m .acked) (m .fills)) (day.Refused refusal.StillWaiting) (day.Fresh noMarks)
+newDay m = cond (ltb (m .acked) (m .last)) (day.Refused refusal.StillWaiting) (day.Fresh noMarks)

@@ -1,14 +1,14 @@
 // The queue to the ledger host: offer, begin-again, acknowledge, new day. Marks by value, the fills in the lent book.
 ghost use mathlib.Core.Path.{_≡_};
-ghost use lib.ListN.{length};
-ghost use Rattle.book.specs.Memory.{slotsIn};
-ghost use Rattle.queue.specs.Queue.{offeredUpTo, ackedUpTo, offered, lineAfter, begunAgain, acknowledgedBy, noteAfter, newDay};
+ghost use Rattle.queue.specs.Queue.{noMarks, marksAgain, oneMore, offeredUpTo, ackedUpTo, Offers, begunAgain, Acknowledges, newDay};
 use answer::Refusal;
-use fill::BOOK;
-use fill::LINE;
+use answer::Setup;
+use book::BOOK;
 
-// How many fills and orders the day has, and the marks: the last fill acknowledged, and the last offered.
+// The last number given, as many slots the day has; how many of them are fills, and of how many orders; and the marks: the last number
+// acknowledged, and the last offered.
 pub struct Marks {
+    pub last: u32,
     pub fills: u32,
     pub orders: u32,
     pub acked: u32,
@@ -34,11 +34,51 @@ pub enum Day {
 }
 
 impl Marks {
+    // Nothing booked.
+    pub fn none() -> Marks
+        ensures { λ r. ⌜ r ≡ noMarks ⌝ }
+    {
+        Marks {
+            last: 0,
+            fills: 0,
+            orders: 0,
+            acked: 0,
+            offered: 0,
+        }
+    }
+
+    // After a restart: "offered equals acknowledged".
+    pub fn again(last: u32, fills: u32, orders: u32, acked: u32) -> Marks
+        ensures { λ r. ⌜ r ≡ marksAgain last fills orders acked ⌝ }
+    {
+        Marks {
+            last,
+            fills,
+            orders,
+            acked,
+            offered: acked,
+        }
+    }
+
+    // One number more is given; fills and orders are what there are then.
+    pub fn one_more(self, fills: u32, orders: u32) -> Marks
+        ensures { λ r. ⌜ r ≡ oneMore fills orders self ⌝ }
+    {
+        Marks {
+            last: answer::count_on(self.last, 1),
+            fills,
+            orders,
+            acked: self.acked,
+            offered: self.offered,
+        }
+    }
+
     // One mark moved.
     fn offered_up_to(self, n: u32) -> Marks
         ensures { λ r. ⌜ r ≡ offeredUpTo n self ⌝ }
     {
         Marks {
+            last: self.last,
             fills: self.fills,
             orders: self.orders,
             acked: self.acked,
@@ -50,6 +90,7 @@ impl Marks {
         ensures { λ r. ⌜ r ≡ ackedUpTo n self ⌝ }
     {
         Marks {
+            last: self.last,
             fills: self.fills,
             orders: self.orders,
             acked: n,
@@ -59,13 +100,13 @@ impl Marks {
 
     // "Offer writes the fill after the last offered one as its line of the listing .., or, only where there is no such fill,
     // says none." Only the offered mark moves.
-    pub fn offer(self, book: &[u8; BOOK], line: &mut [u8]) -> Offer
-        ensures { λ r. ⌜ (r ≡ offered self (slotsIn (self .fills) (now (book .entry))) (length (now (line .entry)))) × (now (line .exit) ≡ lineAfter self (slotsIn (self .fills) (now (book .entry))) (now (line .entry))) ⌝ }
+    pub fn offer(self, setup: Setup, book: &[u8; BOOK], line: &mut [u8]) -> Offer
+        ensures { λ r. ⌜ Offers setup self (now (book .entry)) (now (line .entry)) r (now (line .exit)) ⌝ }
     {
-        if line.len() < LINE {
+        if line.len() < fill::line_least(setup) {
             return Offer::Refused(Refusal::ShortBuffer);
         }
-        if self.fills <= self.offered {
+        if self.last <= self.offered {
             return Offer::Nothing;
         }
         let next = self.offered + 1;
@@ -82,10 +123,16 @@ impl Marks {
 
     // "Acknowledge n takes all fills up to n; n at or below the mark is already, no change." It is refused above the offered
     // mark. The fills stay where they are.
-    pub fn acknowledge(self, book: &mut [u8; BOOK], n: u32, note: &mut [u8]) -> Acknowledged
-        ensures { λ r. ⌜ (r ≡ acknowledgedBy self n (length (now (note .entry)))) × (now (book .exit) ≡ now (book .entry)) × (now (note .exit) ≡ noteAfter self n (now (note .entry))) ⌝ }
+    pub fn acknowledge(
+        self,
+        setup: Setup,
+        book: &mut [u8; BOOK],
+        n: u32,
+        note: &mut [u8],
+    ) -> Acknowledged
+        ensures { λ r. ⌜ Acknowledges setup self n (now (book .entry)) (now (note .entry)) r (now (book .exit)) (now (note .exit)) ⌝ }
     {
-        if note.len() < note::LONGEST {
+        if note.len() < note::note_least(setup) {
             return Acknowledged::Refused(Refusal::ShortBuffer);
         }
         if self.offered < n {
@@ -102,14 +149,9 @@ impl Marks {
     pub fn new_day(self, book: &mut [u8; BOOK]) -> Day
         ensures { λ r. ⌜ (r ≡ newDay self) × (now (book .exit) ≡ now (book .entry)) ⌝ }
     {
-        if self.acked < self.fills {
+        if self.acked < self.last {
             return Day::Refused(Refusal::StillWaiting);
         }
-        Day::Fresh(Marks {
-            fills: 0,
-            orders: 0,
-            acked: 0,
-            offered: 0,
-        })
+        Day::Fresh(Marks::none())
     }
 }

@@ -15,25 +15,27 @@ use Rattle.octet.specs.Bytes.{part, joined}
 use Rattle.octet.specs.Splice.{splice}
 use Rattle.octet.proofs.Cases.{cond-true, cond-false, of-cond, or-cases, and-right, and-no-left, bool-case}
 use Rattle.octet.proofs.Lists.{drop-done, splice-in}
-use Rattle.fill.specs.Slot.{Slot, slotLawful, slotWidth, mostFills, bookWidth}
-use Rattle.book.specs.Memory.{slotsIn, appended}
-use Rattle.book.specs.Place.{place, isNew, knownOrder, ordersWith, hasRoom, mostOrders}
-use Rattle.answer.specs.Numbers.{largest}
-use Rattle.book.proofs.Slots.{slots-length, slots-append, appended-length, joined-slots, Wide, none-wide, more-wide, slots-joined}
+use Rattle.answer.specs.Numbers.{largest, nineDigits}
+use Rattle.fill.specs.Slot.{Slot, slotLawful}
+use Rattle.book.specs.Memory.{mostSlots, bookWidth, slotsIn, appended, holding}
+use Rattle.book.specs.Place.{place, isNew, fillsWith, ordersWith, hasRoom}
+use Rattle.book.specs.Admitting.{bookingOf}
+use Rattle.book.proofs.Placing.{has-room, booking-fills, booking-orders}
+use Rattle.book.proofs.Slots.{slots-length, slots-append, appended-length, Wide, none-wide, more-wide, holding-slots}
 use Rattle.note.specs.Notes.{Note, Raises, Books, Acks, Clears, Reading, Whole, Part, Unknown, readNote, sizeTaken}
-use Rattle.note.specs.Kept.{Kept, empty, bookable, top, lawful, after}
-use Rattle.note.proofs.Keeping.{Slotted, read-is, lawful-books, bookable-facts, room-fills, AllSlots, Sound}
+use Rattle.note.specs.Kept.{Kept, empty, bookable, lawful, after}
+use Rattle.note.proofs.Keeping.{Slotted, read-is, lawful-books, bookable-facts, AllSlots, Sound}
 use Rattle.restart.specs.declared.Counts.{Counts}
 use Rattle.restart.specs.declared.Step.{Step}
 use Rattle.restart.specs.declared.Step.the-variants as step
 use Rattle.restart.specs.declared.Restarted.the-variants as restarted
-use Rattle.restart.specs.Restart.{Outcome, Again, Unlawful, restart, countsOf, told, bookAfter}
-use Rattle.restart.specs.Steps.{keptIn, bare, isNext, stepNote, stepRead, memNote, memRead, HasSlots}
+use Rattle.restart.specs.Restart.{Outcome, Again, Unlawful, restart, countsOf, told, bookAfter, HasSlots}
+use Rattle.restart.specs.Steps.{keptIn, bare, isNext, stepNote, stepRead, memNote, memRead}
 use Rattle.restart.proofs.Going.{go, restart-go, go-end, go-part, go-unknown, go-bad, go-on, some-taken, GivenIn}
 
 -- ---- lawful, test by test
 module _ (q : Kept) where
-  pub raises-by : (e o : ℕ) {a b c d f : Bool} → ltb (q .e) e || ltb (q .o) o ≡ a → leb (q .e) e ≡ b → leb (q .o) o ≡ c → leb e top ≡ d → leb o top ≡ f
+  pub raises-by : (e o : ℕ) {a b c d f : Bool} → ltb (q .e) e || ltb (q .o) o ≡ a → leb (q .e) e ≡ b → leb (q .o) o ≡ c → leb e nineDigits ≡ d → leb o nineDigits ≡ f
       → a && b && c && d && f ≡ lawful q (Raises e o)
   unfolding lawful
   raises-by e o ea eb ec ed ef = cc
@@ -54,89 +56,90 @@ module _ (q : Kept) where
   unfolding stepNote
   step-yes n k t e = ap step.On e ∙ sym (cond-true (lawful q n) (step.On (countsOf (after q n))) step.Bad (sym t))
 
-pub bookable-by : (ss : List Slot) (orders : ℕ) (s : Slot) {a b c : Bool} → slotLawful s ≡ a → isNew (place ss s) ≡ b → hasRoom ss orders s ≡ c
-    → a && b && c ≡ bookable ss orders s
+pub bookable-by : (ss : List Slot) (fills orders : ℕ) (s : Slot) {a b c : Bool} → slotLawful s ≡ a → isNew (place ss s) ≡ b → hasRoom ss fills orders s ≡ c
+    → a && b && c ≡ bookable ss fills orders s
 unfolding bookable
-bookable-by ss orders s ea eb ec = cc
+bookable-by ss fills orders s ea eb ec = cc
 
 -- an F note whose numbers are not the next, and one whose numbers are
-pub next-by : (m : Counts) (e o : ℕ) {a b c : Bool} → eqb e (m .e + 1) ≡ a → leb e top ≡ b → eqb o (m .o) ≡ c → a && b && c ≡ isNext m e o
+pub next-by : (m : Counts) (e o : ℕ) {a b c : Bool} → eqb e (m .e + 1) ≡ a → leb e nineDigits ≡ b → eqb o (m .o) ≡ c → a && b && c ≡ isNext m e o
 next-by m e o ea eb ec = cc
 
 module _ (m : Counts) (mem : List ℕ) (e o : ℕ) (s : Slot) where
   pub books-out : isNext m e o ≡ false → false ≡ lawful (keptIn m mem) (Books e o s)
   unfolding lawful
-  books-out h = sym (and-no-left (isNext m e o) (bookable (slotsIn (m .fills) mem) (m .orders) s) h)
+  books-out h = sym (and-no-left (isNext m e o) (bookable (slotsIn (m .last) mem) (m .fills) (m .orders) s) h)
 
-  pub books-next : {d : Bool} → isNext m e o ≡ true → d ≡ bookable (slotsIn (m .fills) mem) (m .orders) s → d ≡ lawful (keptIn m mem) (Books e o s)
+  pub books-next : {d : Bool} → isNext m e o ≡ true → d ≡ bookable (slotsIn (m .last) mem) (m .fills) (m .orders) s → d ≡ lawful (keptIn m mem) (Books e o s)
   unfolding lawful
-  books-next h f = f ∙ sym (ap (λ (a : Bool). a && bookable (slotsIn (m .fills) mem) (m .orders) s) h)
+  books-next h f = f ∙ sym (ap (λ (a : Bool). a && bookable (slotsIn (m .last) mem) (m .fills) (m .orders) s) h)
 
 -- ---- counts
-abbrev counts : ℕ → ℕ → ℕ → ℕ → ℕ → Counts
-counts e o fills orders acked = record { e = e; o = o; fills = fills; orders = orders; acked = acked }
+abbrev counts : ℕ → ℕ → ℕ → ℕ → ℕ → ℕ → Counts
+counts e o last fills orders acked = record { e = e; o = o; last = last; fills = fills; orders = orders; acked = acked }
 
-abbrev kept : ℕ → ℕ → List Slot → ℕ → ℕ → Kept
-kept e o slots orders acked = record { e = e; o = o; slots = slots; orders = orders; acked = acked }
+abbrev kept : ℕ → ℕ → List Slot → ℕ → ℕ → ℕ → Kept
+kept e o slots fills orders acked = record { e = e; o = o; slots = slots; fills = fills; orders = orders; acked = acked }
 
 module _ (m : Counts) (mem : List ℕ) where
-  pub fills-is : length (keptIn m mem .slots) ≡ m .fills
-  fills-is = slots-length (m .fills) mem
+  pub last-is : length (keptIn m mem .slots) ≡ m .last
+  last-is = slots-length (m .last) mem
 
   pub counts-kept : countsOf (keptIn m mem) ≡ m
-  counts-kept = ap (λ (n : ℕ). counts (m .e) (m .o) n (m .orders) (m .acked)) fills-is
+  counts-kept = ap (λ (n : ℕ). counts (m .e) (m .o) n (m .fills) (m .orders) (m .acked)) last-is
 
-  pub on-raises : (e o : ℕ) → counts e o (m .fills) (m .orders) (m .acked) ≡ countsOf (after (keptIn m mem) (Raises e o))
+  pub on-raises : (e o : ℕ) → counts e o (m .last) (m .fills) (m .orders) (m .acked) ≡ countsOf (after (keptIn m mem) (Raises e o))
   unfolding after
-  on-raises e o = ap (λ (n : ℕ). counts e o n (m .orders) (m .acked)) (sym fills-is)
+  on-raises e o = ap (λ (n : ℕ). counts e o n (m .fills) (m .orders) (m .acked)) (sym last-is)
 
-  pub on-acks : (k : ℕ) → counts (m .e) (m .o) (m .fills) (m .orders) k ≡ countsOf (after (keptIn m mem) (Acks k))
+  pub on-acks : (k : ℕ) → counts (m .e) (m .o) (m .last) (m .fills) (m .orders) k ≡ countsOf (after (keptIn m mem) (Acks k))
   unfolding after
-  on-acks k = ap (λ (n : ℕ). counts (m .e) (m .o) n (m .orders) k) (sym fills-is)
+  on-acks k = ap (λ (n : ℕ). counts (m .e) (m .o) n (m .fills) (m .orders) k) (sym last-is)
 
   pub on-clears : countsOf empty ≡ countsOf (after (keptIn m mem) Clears)
   unfolding after
   on-clears = refl
 
-  pub on-books : (e o orders : ℕ) (s : Slot) → orders ≡ ordersWith (slotsIn (m .fills) mem) (m .orders) s
-      → counts e o (m .fills + 1) orders (m .acked) ≡ countsOf (after (keptIn m mem) (Books e o s))
+  pub on-books : (e o fills orders : ℕ) (s : Slot) → fills ≡ fillsWith (m .fills) s → orders ≡ ordersWith (slotsIn (m .last) mem) (m .orders) s
+      → counts e o (m .last + 1) fills orders (m .acked) ≡ countsOf (after (keptIn m mem) (Books e o s))
   unfolding after
-  on-books e o orders s h =
-      let l : m .fills + 1 ≡ length (slotsIn (m .fills) mem ++ (s ∷ [])) = omega (arith, fills-is, length-append (slotsIn (m .fills) mem) (s ∷ [])) in
-      ap₂ (λ (n x : ℕ). counts e o n x (m .acked)) l h
+  on-books e o fills orders s g h =
+      let l : m .last + 1 ≡ length (slotsIn (m .last) mem ++ (s ∷ [])) = omega (arith, last-is, length-append (slotsIn (m .last) mem) (s ∷ [])) in
+      ap (λ (n : ℕ). counts e o n fills orders (m .acked)) l
+      ∙ ap₂ (λ (f x : ℕ). counts e o (length (slotsIn (m .last) mem ++ (s ∷ []))) f x (m .acked)) g h
 
   -- the steps of S, K and D go by the counts alone
   pub any-raises : (e o : ℕ) → stepNote (bare m) (Raises e o) ≡ stepNote (keptIn m mem) (Raises e o)
   unfolding stepNote lawful after
   any-raises e o =
-      ap (λ (n : ℕ). cond (lawful (bare m) (Raises e o)) (step.On (counts e o n (m .orders) (m .acked))) step.Bad) (slots-length (m .fills) [] ∙ sym fills-is)
+      ap (λ (n : ℕ). cond (lawful (bare m) (Raises e o)) (step.On (counts e o n (m .fills) (m .orders) (m .acked))) step.Bad) (slots-length (m .last) [] ∙ sym last-is)
 
   pub any-acks : (k : ℕ) → stepNote (bare m) (Acks k) ≡ stepNote (keptIn m mem) (Acks k)
   unfolding stepNote lawful after
   any-acks k =
-      ap (λ (n : ℕ). cond (ltb (m .acked) k && leb k n) (step.On (counts (m .e) (m .o) n (m .orders) k)) step.Bad) (slots-length (m .fills) [] ∙ sym fills-is)
+      ap (λ (n : ℕ). cond (ltb (m .acked) k && leb k n) (step.On (counts (m .e) (m .o) n (m .fills) (m .orders) k)) step.Bad) (slots-length (m .last) [] ∙ sym last-is)
 
   pub any-clears : stepNote (bare m) Clears ≡ stepNote (keptIn m mem) Clears
   unfolding stepNote lawful after
   any-clears =
-      ap (λ (n : ℕ). cond (eqb (m .acked) n) (step.On (countsOf empty)) step.Bad) (slots-length (m .fills) [] ∙ sym fills-is)
+      ap (λ (n : ℕ). cond (eqb (m .acked) n) (step.On (countsOf empty)) step.Bad) (slots-length (m .last) [] ∙ sym last-is)
 
 -- ---- the counts and the memory after a lawful note are what is kept after it
 pub kept-after : (m : Counts) (mem : List ℕ) (note : Note) → length mem ≡ bookWidth → Slotted note → lawful (keptIn m mem) note ≡ true
     → keptIn (countsOf (after (keptIn m mem) note)) (memNote mem (keptIn m mem) note) ≡ after (keptIn m mem) note
 unfolding after memNote slotsIn
-kept-after m mem (Raises e o) l w t = ap (λ (n : ℕ). kept e o (slotsIn n mem) (m .orders) (m .acked)) (fills-is m mem)
+kept-after m mem (Raises e o) l w t = ap (λ (n : ℕ). kept e o (slotsIn n mem) (m .fills) (m .orders) (m .acked)) (last-is m mem)
 kept-after m mem (Books e o s) l w t =
     let q = keptIn m mem in
-    let ss = slotsIn (m .fills) mem in
-    let room : length ss < mostFills = room-fills ss (m .orders) s (bookable-facts ss (m .orders) s (lawful-books q e o s t .3) .2) in
-    let f : length ss ≡ m .fills = fills-is m mem in
-    let n : length (ss ++ (s ∷ [])) ≡ m .fills + 1 = omega (arith, length-append ss (s ∷ [])) in
-    let mem′ : cond (lawful q (Books e o s)) (appended mem (length ss) s) mem ≡ appended mem (m .fills) s =
+    let ss = slotsIn (m .last) mem in
+    let room : length ss < mostSlots = has-room ss (m .fills) (m .orders) s (bookable-facts ss (m .fills) (m .orders) s (lawful-books q e o s t .3) .2) .slot-left in
+    let f : length ss ≡ m .last = last-is m mem in
+    let n : length (ss ++ (s ∷ [])) ≡ m .last + 1 = omega (arith, length-append ss (s ∷ [])) in
+    let mem′ : cond (lawful q (Books e o s)) (appended mem (length ss) s) mem ≡ appended mem (m .last) s =
     cond-true (lawful q (Books e o s)) (appended mem (length ss) s) mem t ∙ ap (λ (k : ℕ). appended mem k s) f in
-    ap (λ (x : List Slot). kept e o x (ordersWith ss (m .orders) s) (m .acked))
-    (ap₂ slotsIn n mem′ ∙ slots-append mem (m .fills) s (omega arith) (w .wide) l)
-kept-after m mem (Acks k) l w t = ap (λ (n : ℕ). kept (m .e) (m .o) (slotsIn n mem) (m .orders) k) (fills-is m mem)
+    ap (λ (x : List Slot). kept e o x (fillsWith (m .fills) s) (ordersWith ss (m .orders) s) (m .acked))
+    (ap₂ slotsIn n mem′ ∙ slots-append mem (m .last) s (omega arith) (w .wide) l)
+kept-after m mem (Acks k) l w t = ap (λ (n : ℕ). kept (m .e) (m .o) (slotsIn n mem) (m .fills) (m .orders) k) (last-is m mem)
 kept-after m mem Clears l w t = refl
 
 -- ---- what a step says of the whole restart
@@ -198,7 +201,7 @@ module _ (m : Counts) (mem s : List ℕ) (at : ℕ) where
 pub replay-ends : (o : Outcome) (m : Counts) (mem mem′ : List ℕ) (at : ℕ) → o ≡ Again (keptIn m mem) at → mem′ ≡ mem
     → (restarted.Again m at ≡ told o) × HasSlots mem′ o
 replay-ends o m mem mem′ at e f =
-    let w : slotsIn (length (slotsIn (m .fills) mem)) mem′ ≡ slotsIn (m .fills) mem = ap₂ slotsIn (fills-is m mem) f in
+    let w : slotsIn (length (slotsIn (m .last) mem)) mem′ ≡ slotsIn (m .last) mem = ap₂ slotsIn (last-is m mem) f in
     (ap (λ (k : Counts). restarted.Again k at) (sym (counts-kept m mem)) ∙ sym (ap told e), subst (HasSlots mem′) (sym e) w)
 
 pub replay-bad : (o : Outcome) (mem′ : List ℕ) (at : ℕ) → o ≡ Unlawful at → (restarted.Unlawful at ≡ told o) × HasSlots mem′ o
@@ -277,40 +280,33 @@ unfolding memNote
 mem-no mem q e o s t = sym (cond-false (lawful q (Books e o s)) (appended mem (length (q .slots)) s) mem (sym t))
 
 module _ (m : Counts) (mem : List ℕ) (e o : ℕ) (s : Slot) (t : true ≡ lawful (keptIn m mem) (Books e o s)) where
-  pub mem-yes : (mem′ : List ℕ) → mem′ ≡ appended mem (m .fills) s → mem′ ≡ memNote mem (keptIn m mem) (Books e o s)
+  pub mem-yes : (mem′ : List ℕ) → mem′ ≡ appended mem (m .last) s → mem′ ≡ memNote mem (keptIn m mem) (Books e o s)
   unfolding memNote
   mem-yes mem′ h =
-      h ∙ ap (λ (k : ℕ). appended mem k s) (sym (fills-is m mem))
-      ∙ sym (cond-true (lawful (keptIn m mem) (Books e o s)) (appended mem (length (slotsIn (m .fills) mem)) s) mem (sym t))
+      h ∙ ap (λ (k : ℕ). appended mem k s) (sym (last-is m mem))
+      ∙ sym (cond-true (lawful (keptIn m mem) (Books e o s)) (appended mem (length (slotsIn (m .last) mem)) s) mem (sym t))
 
-  room : hasRoom (slotsIn (m .fills) mem) (m .orders) s ≡ true
-  room = bookable-facts (slotsIn (m .fills) mem) (m .orders) s (lawful-books (keptIn m mem) e o s (sym t) .3) .2
+  room : hasRoom (slotsIn (m .last) mem) (m .fills) (m .orders) s ≡ true
+  room = bookable-facts (slotsIn (m .last) mem) (m .fills) (m .orders) s (lawful-books (keptIn m mem) e o s (sym t) .3) .2
 
   -- the counts stay in their range
-  pub fills-few : m .fills < mostFills
-  fills-few = omega (arith, fills-is m mem, room-fills (slotsIn (m .fills) mem) (m .orders) s room)
+  pub last-few : m .last < mostSlots
+  last-few = omega (arith, last-is m mem, has-room (slotsIn (m .last) mem) (m .fills) (m .orders) s room .slot-left)
 
-  pub orders-fit : m .orders ≤ largest → min (ordersWith (slotsIn (m .fills) mem) (m .orders) s) largest ≡ ordersWith (slotsIn (m .fills) mem) (m .orders) s
-  unfolding hasRoom ordersWith
-  orders-fit h =
-      let ss = slotsIn (m .fills) mem in
-      let r = and-right (ltb (length ss) mostFills) (knownOrder ss s || ltb (m .orders) mostOrders) room in
-      min-eq-left
-      (⊎-elim
-      (λ k. subst (λ (x : ℕ). x ≤ largest) (sym (cond-true (knownOrder ss s) (m .orders) (m .orders + 1) k)) h)
-      (λ k. (let b = ltb-true (m .orders) mostOrders k in
-      of-cond (λ (x : ℕ). x ≤ largest) (knownOrder ss s) (λ f. h) (λ f. omega arith)))
-      (or-cases (knownOrder ss s) (ltb (m .orders) mostOrders) r))
+  pub fills-fit : bookingOf (slotsIn (m .last) mem) (m .fills) (m .orders) s .fills ≡ fillsWith (m .fills) s
+  fills-fit = booking-fills (slotsIn (m .last) mem) (m .fills) (m .orders) s room
+
+  pub orders-fit : m .orders ≤ largest → bookingOf (slotsIn (m .last) mem) (m .fills) (m .orders) s .orders ≡ ordersWith (slotsIn (m .last) mem) (m .orders) s
+  orders-fit h = booking-orders (slotsIn (m .last) mem) (m .fills) (m .orders) s h room
 
 -- ---- the used slots of the replay are copied into the book
 -- only they are written
-pub book-is : (o : Outcome) (book mem : List ℕ) (k : Counts) (whole most : ℕ) → restarted.Again k whole ≡ told o → HasSlots mem o → GivenIn most o → length mem ≡ bookWidth
-    → splice book 0 (part 0 (k .fills * slotWidth) mem) ≡ bookAfter book o
-book-is (Again q w) book mem k whole most e h g l =
+pub book-is : (o : Outcome) (book mem : List ℕ) (k : Counts) (whole : ℕ) → restarted.Again k whole ≡ told o → HasSlots mem o
+    → holding book (slotsIn (k .last) mem) ≡ bookAfter book o
+book-is (Again q w) book mem k whole e h =
     let f : k ≡ countsOf q = cc in
-    ap (splice book 0)
-    (ap (λ (x : Counts). take (x .fills * slotWidth) mem) f ∙ sym (joined-slots (length (q .slots)) mem) ∙ ap joined h)
-book-is (Unlawful at) book mem k whole most e h g l = never cc
+    ap (holding book) (ap (λ (x : Counts). slotsIn (x .last) mem) f ∙ h)
+book-is (Unlawful at) book mem k whole e h = never cc
 
 pub book-stays : (o : Outcome) (book : List ℕ) (at : ℕ) → restarted.Unlawful at ≡ told o → book ≡ bookAfter book o
 book-stays (Again q w) book at e = never cc
@@ -321,16 +317,8 @@ slots-all-wide : (ss : List Slot) → AllSlots ss → Wide ss
 slots-all-wide [] h = none-wide
 slots-all-wide (s ∷ ss) h = more-wide (h .0 .wide) (slots-all-wide ss (h .1))
 
-joined-length : (ss : List Slot) → AllSlots ss → length (joined ss) ≡ length ss * slotWidth
-joined-length [] h = refl
-joined-length (s ∷ ss) h = omega (arith, length-append s (joined ss), joined-length ss (h .1), h .0 .wide)
-
 pub book-slots : (q : Kept) (whole : ℕ) (book : List ℕ) → Sound q → length book ≡ bookWidth → slotsIn (length (q .slots)) (bookAfter book (Again q whole)) ≡ q .slots
-book-slots q whole book h l =
-    let few = h .few in
-    let j = joined-length (q .slots) (h .each) in
-    ap (slotsIn (length (q .slots))) (splice-in book 0 (joined (q .slots)) (omega arith))
-    ∙ slots-joined (q .slots) (drop (0 + length (joined (q .slots))) book) (slots-all-wide (q .slots) (h .each))
+book-slots q whole book h l = holding-slots book (q .slots) (slots-all-wide (q .slots) (h .each)) (h .few) l
 
 pub slots-there : (o : Outcome) (book book′ : List ℕ) (most : ℕ) → GivenIn most o → book′ ≡ bookAfter book o → length book ≡ bookWidth → HasSlots book′ o
 slots-there (Again q w) book book′ most g e l = ap (slotsIn (length (q .slots))) e ∙ book-slots q w book (g .sound) l

@@ -1,10 +1,10 @@
 -- "A restart reads whole notes, drops a part at the end, and says how many bytes are whole."
 use Prim.Native.Nat.{ℕ, zero, suc, _+_}
+use mathlib.Core.Path.{_≡_}
 use mathlib.Core.List.{List}
 use mathlib.Core.Bool.{cond}
 use lib.ListN.{length, drop}
-use Rattle.octet.specs.Bytes.{joined}
-use Rattle.octet.specs.Splice.{splice}
+use Rattle.book.specs.Memory.{slotsIn, holding}
 use Rattle.note.specs.Notes.{Reading, Whole, Part, Unknown, readNote}
 use Rattle.note.specs.Kept.{Kept, empty, lawful, after}
 use Rattle.restart.specs.declared.Counts.{Counts}
@@ -33,7 +33,7 @@ restart notes = run (length notes) empty 0 notes
 -- ---- the code's answer, with the slots in the lent book: "Lent bytes past what is written stay"
 
 abbrev pub countsOf : Kept → Counts
-countsOf q = record { e = q .e; o = q .o; fills = length (q .slots); orders = q .orders; acked = q .acked }
+countsOf q = record { e = q .e; o = q .o; last = length (q .slots); fills = q .fills; orders = q .orders; acked = q .acked }
 
 abbrev pub told : Outcome → Restarted
 told (Again q whole) = restarted.Again (countsOf q) whole
@@ -41,5 +41,14 @@ told (Unlawful at) = restarted.Unlawful at
 
 -- the book after it: only the used slots are written; "Nothing changes" where it is refused
 abbrev pub bookAfter : List ℕ → Outcome → List ℕ
-bookAfter book (Again q whole) = splice book 0 (joined (q .slots))
+bookAfter book (Again q whole) = holding book (q .slots)
 bookAfter book (Unlawful at) = book
+
+-- a memory has the slots of what a restart gives
+abbrev pub HasSlots : List ℕ → Outcome → Type 0
+HasSlots mem (Again q whole) = slotsIn (length (q .slots)) mem ≡ q .slots
+HasSlots mem (Unlawful at) = Unit
+
+-- what a restart answers and leaves in the lent book
+abbrev pub Restarts : List ℕ → Outcome → Restarted → List ℕ → Type 0
+Restarts book o r book′ = (r ≡ told o) × (book′ ≡ bookAfter book o) × HasSlots book′ o

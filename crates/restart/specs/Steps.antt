@@ -5,17 +5,19 @@ use mathlib.Core.Bool.{Bool, cond, _&&_, _||_}
 use mathlib.Core.Path.{_≡_}
 use lib.ListN.{length}
 use lib.Dec.{leb, ltb, eqb}
-use Rattle.book.specs.Memory.{slotsIn, appended}
+use Rattle.answer.specs.Numbers.{nineDigits}
+use Rattle.book.specs.Memory.{bookWidth, slotsIn, appended}
 use Rattle.note.specs.Notes.{Note, Raises, Books, Acks, Clears, Reading, Whole, Part, Unknown}
-use Rattle.note.specs.Kept.{Kept, top, lawful, after}
-use Rattle.restart.specs.Restart.{Outcome, Again, Unlawful, countsOf}
+use Rattle.note.specs.Kept.{Kept, lawful, after}
+use Rattle.restart.specs.Restart.{Outcome, countsOf, told, HasSlots}
 use Rattle.restart.specs.declared.Counts.{Counts}
+use Rattle.restart.specs.declared.Restarted.{Restarted}
 use Rattle.restart.specs.declared.Step.{Step}
 use Rattle.restart.specs.declared.Step.the-variants as step
 
 -- what is kept, from the counts and the memory that has the slots
 abbrev pub keptIn : Counts → List ℕ → Kept
-keptIn m mem = record { e = m .e; o = m .o; slots = slotsIn (m .fills) mem; orders = m .orders; acked = m .acked }
+keptIn m mem = record { e = m .e; o = m .o; slots = slotsIn (m .last) mem; fills = m .fills; orders = m .orders; acked = m .acked }
 
 -- S, K and D are judged by the counts alone: any memory does
 abbrev pub bare : Counts → Kept
@@ -27,7 +29,7 @@ raised m e o = ltb (m .e) e || ltb (m .o) o
 
 -- "F has E one up within that, O the same"
 abbrev pub isNext : Counts → ℕ → ℕ → Bool
-isNext m e o = eqb e (m .e + 1) && leb e top && eqb o (m .o)
+isNext m e o = eqb e (m .e + 1) && leb e nineDigits && eqb o (m .o)
 
 unfoldable pub stepNote : Kept → Note → Step
 stepNote q note = cond (lawful q note) (step.On (countsOf (after q note))) step.Bad
@@ -49,7 +51,13 @@ memRead mem q (Whole note n) = memNote mem q note
 memRead mem q Part = mem
 memRead mem q Unknown = mem
 
--- a memory has the slots of what a restart gives
-abbrev pub HasSlots : List ℕ → Outcome → Type 0
-HasSlots mem (Again q whole) = slotsIn (length (q .slots)) mem ≡ q .slots
-HasSlots mem (Unlawful at) = Unit
+-- a step, and the memory after it: of a note, and of what is read
+abbrev pub Takes : List ℕ → Kept → Note → Step → List ℕ → Type 0
+Takes mem q note r mem′ = (r ≡ stepNote q note) × (mem′ ≡ memNote mem q note)
+
+abbrev pub Steps : List ℕ → Kept → Reading → Step → List ℕ → Type 0
+Steps mem q reading r mem′ = (r ≡ stepRead q reading) × (mem′ ≡ memRead mem q reading)
+
+-- the notes one by one, their slots into a memory
+abbrev pub Replays : Outcome → Restarted → List ℕ → Type 0
+Replays o r mem′ = (r ≡ told o) × HasSlots mem′ o × (length mem′ ≡ bookWidth)

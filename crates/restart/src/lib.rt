@@ -3,20 +3,21 @@
 ghost use mathlib.Core.Path.{_≡_};
 ghost use Prim.Native.Nat.{_+_, _≤_};
 ghost use lib.ListN.{length};
-ghost use Rattle.fill.specs.Slot.{bookWidth};
+ghost use Rattle.book.specs.Memory.{bookWidth};
 ghost use Rattle.note.specs.Notes.{Raises, Books, Acks, Clears, readNote};
 ghost use Rattle.note.specs.Kept.{lawful, empty};
-ghost use Rattle.restart.specs.Restart.{restart, told, bookAfter, countsOf};
-ghost use Rattle.restart.specs.Steps.{keptIn, bare, raised, isNext, stepNote, stepRead, memNote, memRead, HasSlots};
+ghost use Rattle.restart.specs.Restart.{restart, countsOf, Restarts};
+ghost use Rattle.restart.specs.Steps.{keptIn, bare, raised, isNext, stepNote, Takes, Steps, Replays};
+use answer::NINE_DIGITS;
 use book::Admitted;
-use fill::BOOK;
-use fill::SLOT;
+use book::BOOK;
 use note::Read;
 
-// What the notes keep but for the slots, which are in the lent book.
+// What the notes keep but for the slots, which are in the lent book: last is the last number given, as many slots there are.
 pub struct Counts {
     pub e: u32,
     pub o: u32,
+    pub last: u32,
     pub fills: u32,
     pub orders: u32,
     pub acked: u32,
@@ -34,9 +35,6 @@ pub enum Step {
     End,
     Bad,
 }
-
-// "both at most 999,999,999".
-const TOP: u32 = 999999999;
 
 // "S raises E or O".
 fn raises(m: Counts, e: u32, o: u32) -> bool
@@ -61,10 +59,10 @@ fn raises_lawful(m: Counts, e: u32, o: u32) -> bool
     if o < m.o {
         return false;
     }
-    if TOP < e {
+    if NINE_DIGITS < e {
         return false;
     }
-    o <= TOP
+    o <= NINE_DIGITS
 }
 
 fn step_raises(m: Counts, e: u32, o: u32) -> Step
@@ -76,6 +74,7 @@ fn step_raises(m: Counts, e: u32, o: u32) -> Step
     Step::On(Counts {
         e,
         o,
+        last: m.last,
         fills: m.fills,
         orders: m.orders,
         acked: m.acked,
@@ -89,12 +88,13 @@ fn step_acks(m: Counts, n: u32) -> Step
     if n <= m.acked {
         return Step::Bad;
     }
-    if m.fills < n {
+    if m.last < n {
         return Step::Bad;
     }
     Step::On(Counts {
         e: m.e,
         o: m.o,
+        last: m.last,
         fills: m.fills,
         orders: m.orders,
         acked: n,
@@ -108,6 +108,7 @@ fn empty_counts() -> Counts
     Counts {
         e: 1,
         o: 1,
+        last: 0,
         fills: 0,
         orders: 0,
         acked: 0,
@@ -118,7 +119,7 @@ fn empty_counts() -> Counts
 fn step_clears(m: Counts) -> Step
     ensures { λ r. ⌜ r ≡ stepNote (bare m) Clears ⌝ }
 {
-    if m.acked != m.fills {
+    if m.acked != m.last {
         return Step::Bad;
     }
     Step::On(empty_counts())
@@ -140,7 +141,7 @@ fn is_next(m: Counts, e: u32, o: u32) -> bool
     if e - 1 != m.e {
         return false;
     }
-    if TOP < e {
+    if NINE_DIGITS < e {
         return false;
     }
     o == m.o
@@ -148,25 +149,26 @@ fn is_next(m: Counts, e: u32, o: u32) -> bool
 
 // "F has E one up within that, O the same, and a report that would be booked". The slot is written after the last one.
 fn step_books(mem: &mut [u8; BOOK], m: Counts, e: u32, o: u32, slot: &[u8]) -> Step
-    ensures { λ r. ⌜ (r ≡ stepNote (keptIn m (now (mem .entry))) (Books e o (now (slot .entry)))) × (now (mem .exit) ≡ memNote (now (mem .entry)) (keptIn m (now (mem .entry))) (Books e o (now (slot .entry)))) ⌝ }
+    ensures { λ r. ⌜ Takes (now (mem .entry)) (keptIn m (now (mem .entry))) (Books e o (now (slot .entry))) r (now (mem .exit)) ⌝ }
 {
-    let fills = wide(m.fills);
+    let last = wide(m.last);
     if !is_next(m, e, o) {
         return Step::Bad;
     }
     if !fill::is_lawful(slot) {
         return Step::Bad;
     }
-    match book::admit(mem, fills, m.orders, slot) {
+    match book::admit(mem, last, m.fills, m.orders, slot) {
         Admitted::Clash(_) => Step::Bad,
         Admitted::Already => Step::Bad,
         Admitted::Full => Step::Bad,
         Admitted::New(booking) => {
-            book::append(mem, fills, slot);
+            book::append(mem, last, slot);
             Step::On(Counts {
                 e,
                 o,
-                fills: m.fills + 1,
+                last: m.last + 1,
+                fills: booking.fills,
                 orders: booking.orders,
                 acked: m.acked,
             })
@@ -176,7 +178,7 @@ fn step_books(mem: &mut [u8; BOOK], m: Counts, e: u32, o: u32, slot: &[u8]) -> S
 
 // What the first note of s does.
 fn take_note(mem: &mut [u8; BOOK], m: Counts, s: &[u8]) -> Step
-    ensures { λ r. ⌜ (r ≡ stepRead (keptIn m (now (mem .entry))) (readNote (now (s .entry)))) × (now (mem .exit) ≡ memRead (now (mem .entry)) (keptIn m (now (mem .entry))) (readNote (now (s .entry)))) ⌝ }
+    ensures { λ r. ⌜ Steps (now (mem .entry)) (keptIn m (now (mem .entry))) (readNote (now (s .entry))) r (now (mem .exit)) ⌝ }
 {
     match note::read_note(s) {
         Read::Raises(e, o) => step_raises(m, e, o),
@@ -191,7 +193,7 @@ fn take_note(mem: &mut [u8; BOOK], m: Counts, s: &[u8]) -> Step
 // The notes one by one, their fills into mem.
 fn replay(mem: &mut [u8; BOOK], notes: &[u8]) -> Restarted
     requires { ⌜ length (now mem) ≡ bookWidth ⌝ }
-    ensures { λ r. ⌜ (r ≡ told (restart (now (notes .entry)))) × HasSlots (now (mem .exit)) (restart (now (notes .entry))) × (length (now (mem .exit)) ≡ bookWidth) ⌝ }
+    ensures { λ r. ⌜ Replays (restart (now (notes .entry))) r (now (mem .exit)) ⌝ }
 {
     let mut m = empty_counts();
     let mut at = 0;
@@ -216,12 +218,12 @@ fn replay(mem: &mut [u8; BOOK], notes: &[u8]) -> Restarted
 // A restart into the lent book. The notes are replayed into an array of the call's own, and only the used slots are copied:
 // where a note is unlawful the book stays as it was, and a fill of a day before leaves no trace.
 pub fn restart(book: &mut [u8; BOOK], notes: &[u8]) -> Restarted
-    ensures { λ r. ⌜ (r ≡ told (restart (now (notes .entry)))) × (now (book .exit) ≡ bookAfter (now (book .entry)) (restart (now (notes .entry)))) × HasSlots (now (book .exit)) (restart (now (notes .entry))) ⌝ }
+    ensures { λ r. ⌜ Restarts (now (book .entry)) (restart (now (notes .entry))) r (now (book .exit)) ⌝ }
 {
     let mut mem = [0u8; BOOK];
     match replay(&mut mem, notes) {
         Restarted::Again(counts, whole) => {
-            octet::copy_into(book, 0, octet::part(&mem, 0, wide(counts.fills) * SLOT));
+            book::put_slots(book, wide(counts.last), &mem);
             Restarted::Again(counts, whole)
         }
         Restarted::Unlawful(at) => Restarted::Unlawful(at),

@@ -13,7 +13,7 @@ returns c =
     let a = c .before .before .before .before .before .args in
     let m = now (a .from) in
     let front = inside-front m (a .count) _ (omega arith) (c .before .before .inside .ensures) in
-    c .copy-into .ensures .1 ∙ ap (splice (now (a .book)) 0) (c .before .part .ensures ∙ front ∙ sym (joined-slots (a .count) m))
+    (c .copy-into .ensures .1 ∙ ap (splice (now (a .book)) 0) (c .before .part .ensures ∙ front ∙ sym (joined-slots (a .count) m)), omega arith)
 
 pub put-slots-spec : {M : Type 1} → statement M
 put-slots-spec =

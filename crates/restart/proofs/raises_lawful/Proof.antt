@@ -4,7 +4,7 @@ use mathlib.Core.Path.{refl, sym, _∙_}
 use Prim.Native.Nat.{_-_}
 use native.Mathlib.Omega.{arith}
 use borrow.Author.Tests.{le-leb, lt-leb, not-true, not-false}
-use Rattle.note.specs.Kept.{top}
+use Rattle.answer.specs.Numbers.{nineDigits}
 use Rattle.restart.specs.Restart.{restart}
 use Rattle.restart.specs.Steps.{bare}
 use Rattle.restart.proofs.Stepping.{raises-by}
@@ -29,12 +29,12 @@ returns-3 c =
 returns-4 : tie.Need-returns-4
 returns-4 c =
     let a = c .before .before .before .before .before .before .before .args in
-    raises-by (bare (a .m)) (a .e) (a .o) (sym (c .before .before .before .before .before .before .raises .ensures) ∙ not-false _ (c .before .before .before .before .before .if1 .left)) (le-leb (a .m .e) (a .e) (omega arith)) (le-leb (a .m .o) (a .o) (omega arith)) (lt-leb (a .e) top (omega arith)) refl
+    raises-by (bare (a .m)) (a .e) (a .o) (sym (c .before .before .before .before .before .before .raises .ensures) ∙ not-false _ (c .before .before .before .before .before .if1 .left)) (le-leb (a .m .e) (a .e) (omega arith)) (le-leb (a .m .o) (a .o) (omega arith)) (lt-leb (a .e) nineDigits (omega arith)) refl
 
 returns-5 : tie.Need-returns-5
 returns-5 c =
     let a = c .before .before .before .before .before .before .before .args in
-    raises-by (bare (a .m)) (a .e) (a .o) (sym (c .before .before .before .before .before .before .raises .ensures) ∙ not-false _ (c .before .before .before .before .before .if1 .left)) (le-leb (a .m .e) (a .e) (omega arith)) (le-leb (a .m .o) (a .o) (omega arith)) (le-leb (a .e) top (omega arith)) refl
+    raises-by (bare (a .m)) (a .e) (a .o) (sym (c .before .before .before .before .before .before .raises .ensures) ∙ not-false _ (c .before .before .before .before .before .if1 .left)) (le-leb (a .m .e) (a .e) (omega arith)) (le-leb (a .m .o) (a .o) (omega arith)) (le-leb (a .e) nineDigits (omega arith)) refl
 
 pub raises-lawful-spec : {M : Type 1} → statement M
 raises-lawful-spec =

@@ -6,7 +6,7 @@ use native.Mathlib.Omega.{arith}
 use lib.ListN.{length, drop}
 use denote.Ref.{now}
 use Rattle.octet.proofs.Lists.{part-rest}
-use Rattle.fill.specs.Slot.{bookWidth}
+use Rattle.book.specs.Memory.{bookWidth}
 use Rattle.note.specs.Notes.{readNote}
 use Rattle.restart.specs.Restart.{restart}
 use Rattle.restart.specs.Steps.{keptIn}

@@ -12,40 +12,39 @@ use Rattle.queue.proofs.Marks.acknowledge.Tie as tie
 
 returns : tie.Need-returns
 returns c =
-    let a = c .before .before .args in
-    let s = a .self in
-    let d = now (a .note) in
-    let g = ack-short s (a .n) d (omega arith) in
+    let a = c .before .before .before .args in
+    let least = c .before .note-least .ensures in
+    let g = ack-short (a .setup) (a .self) (a .n) (now (a .note)) (omega arith) in
     (g .0, refl, g .1)
 
 returns-2 : tie.Need-returns-2
 returns-2 c =
-    let a = c .before .before .before .before .args in
-    let s = a .self in
-    let d = now (a .note) in
-    let g = ack-above s (a .n) d (omega arith) (omega arith) in
+    let a = c .before .before .before .before .before .args in
+    let least = c .before .before .before .note-least .ensures in
+    let g = ack-above (a .setup) (a .self) (a .n) (now (a .note)) (omega arith) (omega arith) in
     (g .0, refl, g .1)
 
 returns-3 : tie.Need-returns-3
 returns-3 c =
-    let a = c .before .before .before .before .before .before .args in
-    let s = a .self in
-    let d = now (a .note) in
-    let g = ack-already s (a .n) d (omega arith) (omega arith) (omega arith) in
+    let a = c .before .before .before .before .before .before .before .args in
+    let least = c .before .before .before .before .before .note-least .ensures in
+    let g = ack-already (a .setup) (a .self) (a .n) (now (a .note)) (omega arith) (omega arith) (omega arith) in
     (g .0, refl, g .1)
 
 returns-4 : tie.Need-returns-4
 returns-4 c =
-    let a = c .before .before .before .before .before .before .before .before .before .before .before .args in
-    let s = a .self in
-    let d = now (a .note) in
-    let g = ack-taken s (a .n) d (omega arith) (omega arith) (omega arith) in
-    (ap acknowledged.Taken (c .acked-up-to .ensures) ∙ g .0, refl, c .before .before .before .put-acks .ensures .1 ∙ g .1)
+    let put = c .before .before .before in
+    let least = put .before .before .before .before .before .before .before in
+    let a = least .before .before .args in
+    let enough = least .note-least .ensures in
+    let g = ack-taken (a .setup) (a .self) (a .n) (now (a .note)) (omega arith) (omega arith) (omega arith) in
+    (ap acknowledged.Taken (c .acked-up-to .ensures) ∙ g .0, refl, put .put-acks .ensures .1 ∙ g .1)
 
 pub acknowledge-spec : {M : Type 1} → statement M
 acknowledge-spec =
     tie.close
     (tie.spec
+    (λ c κs. search needs)
     returns
     returns-2
     returns-3

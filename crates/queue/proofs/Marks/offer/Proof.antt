@@ -13,25 +13,32 @@ use Rattle.queue.proofs.Marks.offer.Tie as tie
 
 returns : tie.Need-returns
 returns c =
-    let a = c .before .before .args in
-    offer-short (a .self) (slotsIn (a .self .fills) (now (a .book))) (now (a .line)) (omega arith)
+    let a = c .before .before .before .args in
+    let least = c .before .line-least .ensures in
+    offer-short (a .setup) (a .self) (slotsIn (a .self .last) (now (a .book))) (now (a .line)) (omega arith)
 
 returns-2 : tie.Need-returns-2
 returns-2 c =
-    let a = c .before .before .before .before .args in
-    offer-past (a .self) (now (a .book)) (now (a .line)) (omega arith) (omega arith)
+    let a = c .before .before .before .before .before .args in
+    let least = c .before .before .before .line-least .ensures in
+    offer-past (a .setup) (a .self) (now (a .book)) (now (a .line)) (omega arith) (omega arith)
 
 returns-3 : tie.Need-returns-3
 returns-3 c =
-    let a = c .before .before .before .before .before .before .before .before .before .before .before .before .args in
-    let w = c .before .before .before .write-line in
-    let g = offer-next (a .self) (now (a .book)) (now (a .line)) _ _ _ (omega arith) (omega arith) (c .before .before .before .before .before .slot-at .ensures) (w .ensures .0) (w .ensures .1 .0) (w .ensures .1 .1) in
-    (ap (λ (m : Marks). offer.Given m (w .result)) (c .offered-up-to .ensures) ∙ g .0, g .1)
+    let w = c .before .before .before in
+    let slot = w .before .before in
+    let least = slot .before .before .before .before .before .before in
+    let a = least .before .before .args in
+    let enough = least .line-least .ensures in
+    let written = w .write-line .ensures in
+    let g = offer-next (a .setup) (a .self) (now (a .book)) (now (a .line)) _ _ _ (omega arith) (omega arith) (slot .slot-at .ensures) (written .0) (written .1 .0) (written .1 .1) in
+    (ap (λ (m : Marks). offer.Given m (w .write-line .result)) (c .offered-up-to .ensures) ∙ g .0, g .1)
 
 pub offer-spec : {M : Type 1} → statement M
 offer-spec =
     tie.close
     (tie.spec
+    (λ c κs. search needs)
     returns
     returns-2
     (λ c. search needs)
