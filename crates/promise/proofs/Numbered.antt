@@ -14,7 +14,7 @@ use Rattle.tally.specs.declared.Tally.{Tally}
 use Rattle.receiver.specs.State.{State}
 use Rattle.receiver.specs.Receiver.{What, Lent, refuse, call}
 use Rattle.promise.specs.Sort.{whereGiven, sortOf}
-use Rattle.promise.specs.Demand1.{tooShort, badTime, wrongPhase, numbersUsed, noRoom, notOffered, stillWaiting, unlawfulIn, unlawfulNote, table, firstThere, refusedWith}
+use Rattle.promise.specs.Demand1.{tooShort, mistimed, wrongPhase, numbersUsed, noRoom, notOffered, stillWaiting, unlawfulIn, unlawfulNote, table, firstThere, refusedWith}
 use Rattle.promise.specs.Numbered.{holding, firstRow, columnNo}
 use Rattle.promise.proofs.Refusing.{demand1}
 
@@ -39,7 +39,7 @@ module _ (setup : Setup) (st : State) (b : Lent) (t : Tally) (w : What) where
   rows : columnNo (firstThere (table setup st b w)) ≡ firstRow 1 (holding setup st b w)
   rows =
       row refusal.ShortBuffer (tooShort b w) _ _
-      (row refusal.BadTime (badTime w) _ _
+      (row refusal.BadTime (mistimed w) _ _
       (row refusal.WrongPhase (wrongPhase st w) _ _
       (row refusal.NumbersUsed (numbersUsed st w) _ _
       (row refusal.NoRoom (noRoom setup st w) _ _

@@ -53,7 +53,7 @@ DayIs s is =
     × (checkReason (timeChecked (s ++ bytesOf "-00:00:00")) ≡ cond is none (some 5))
 
 -- a message call in phase 2 with these E and O: what became of the message, the phase and the E after it, and the whole reply
-pub record Called (e o : ℕ) (text : List ℕ) (became : Outcome) (phase′ e′ : ℕ) (reply : List ℕ) : Type 0 where
+pub record Works (e o : ℕ) (text : List ℕ) (became : Outcome) (phase′ e′ : ℕ) (reply : List ℕ) : Type 0 where
   pub answer : worked e o text .answer ≡ answer.Framed (length text) became
   pub phase : phaseNumber (worked e o text .next .phase) ≡ phase′
   pub expected : worked e o text .next .kept .e ≡ e′
@@ -61,7 +61,7 @@ pub record Called (e o : ℕ) (text : List ℕ) (became : Outcome) (phase′ e�
 
 abbrev pub Holds : Case → Type 0
 Holds (message t found) = foundIn (bytesOf t) ≡ found
-Holds (called e o t became phase e′ reply) = Called e o (bytesOf t) became phase e′ (bytesOf reply)
+Holds (called e o t became phase e′ reply) = Works e o (bytesOf t) became phase e′ (bytesOf reply)
 Holds (price t p) = priceRead (bytesOf t) ≡ Value p
 Holds (noPrice t reason) = priceReason (priceRead (bytesOf t)) ≡ some reason
 Holds (day t is) = DayIs (bytesOf t) is

@@ -51,8 +51,8 @@ tooShort b w = shortOf b (sortOf w .lent)
 abbrev pub noTime : List ℕ → Bool
 noTime time = not (eqb (length time) 21 && isTime time)
 
-abbrev pub badTime : What → Bool
-badTime w = whereGiven false noTime (sortOf w .time)
+abbrev pub mistimed : What → Bool
+mistimed w = whereGiven false noTime (sortOf w .time)
 
 -- "3: wrong phase; a message needs 1, 2 or 4"
 abbrev pub wrongPhase : State → What → Bool
@@ -108,7 +108,7 @@ unlawfulNote w = whereGiven none (λ (notes : List ℕ). unlawfulIn (restart not
 abbrev pub above5 : State → Lent → What → List (Option Refusal)
 above5 st b w =
     refuse refusal.ShortBuffer (tooShort b w)
-    ∷ refuse refusal.BadTime (badTime w)
+    ∷ refuse refusal.BadTime (mistimed w)
     ∷ refuse refusal.WrongPhase (wrongPhase st w)
     ∷ refuse refusal.NumbersUsed (numbersUsed st w)
     ∷ []

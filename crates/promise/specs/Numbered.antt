@@ -9,12 +9,12 @@ use Rattle.answer.specs.declared.Setup.{Setup}
 use Rattle.answer.specs.declared.Refusal.{Refusal}
 use Rattle.receiver.specs.State.{State}
 use Rattle.receiver.specs.Receiver.{What, Lent}
-use Rattle.promise.specs.Demand1.{tooShort, badTime, wrongPhase, numbersUsed, noRoom, notOffered, stillWaiting, unlawfulNote}
+use Rattle.promise.specs.Demand1.{tooShort, mistimed, wrongPhase, numbersUsed, noRoom, notOffered, stillWaiting, unlawfulNote}
 
 -- the column "When", rows 1 to 8
 abbrev pub holding : Setup → State → Lent → What → List Bool
 holding setup st b w =
-    tooShort b w ∷ badTime w ∷ wrongPhase st w ∷ numbersUsed st w ∷ noRoom setup st w ∷ notOffered st w ∷ stillWaiting st w
+    tooShort b w ∷ mistimed w ∷ wrongPhase st w ∷ numbersUsed st w ∷ noRoom setup st w ∷ notOffered st w ∷ stillWaiting st w
     ∷ not (isNone (unlawfulNote w)) ∷ []
 
 -- the number of the first row that holds, where the first of these is numbered n
