@@ -49,12 +49,12 @@ use Rattle.receiver.specs.Calls.{owned, lost, settled, bookingNote, booked, Dee
 use Rattle.receiver.specs.Receiver.{What, Own-call, Line-lost, Message, Offer, Begin-again, Acknowledge, New-day, Restart, Lent, refuse, shortReply, badGiven, lastNumber, writing, refusalOf, unrefused, unless-refused, does}
 use Rattle.receiver.specs.declared.Answer.{Answer}
 use Rattle.receiver.specs.declared.Answer.the-variants.{Done, Refused, More, Garbled, Framed, None, Acked, Already}
-use Rattle.promise.specs.Sort.{becameOf, tellsOf}
+use Rattle.promise.specs.Sort.{Became, becameOf, tellsOf}
 use Rattle.promise.specs.World.{isAgain, startsAgain, gave, Shown, showing, anew, linesOf}
 use Rattle.promise.specs.Demand3.{numberTold}
 use Rattle.promise.proofs.Executions.{none-some, no-snoc, no-empty, lines-append}
 use Rattle.promise.proofs.Chain.{Says, NoteSays, Tells, Safe}
-use Rattle.promise.proofs.Unbooked.{settled-unbooked}
+use Rattle.promise.proofs.Speaking.{settled-speaks}
 
 -- the marks in order, and what was shown: the lines of the fills from the base to the offered mark
 pub record Stands (st : State) (h : Shown) : Type 0 where
@@ -251,27 +251,30 @@ module _ (setup : Setup) (st : State) (time s : List ℕ) (safe : Safe (st .kept
   acts-ruled len ps n reported.Fill e l law =
       acts-placed len ps n (place (st .kept .slots) (slotIn ps)) l (law (fill-told (reportIn ps) e .0)) refl
 
-  acts-judged : (len : ℕ) (ps : Pieces) (v : Verdict) → judge setup (sessionOf st) ps ≡ v → Acts st (Message time s) (carriedOut setup st time len ps (judgedBy st ps v))
+  acts-judged : (len : ℕ) → foundIn s ≡ found.Framed len → (v : Verdict) → judge setup (sessionOf st) (piecesOf (bodyIn len s)) ≡ v
+      → Acts st (Message time s) (carriedOut setup st time len (piecesOf (bodyIn len s)) (judgedBy st (piecesOf (bodyIn len s)) v))
   unfolding carriedOut judgedBy
-  acts-judged len ps (Settled j) e =
-      acts-settled len ps j (judge-settles setup (sessionOf st) ps o-most (safe .sound .expected) j e .onward) (settled-unbooked setup (sessionOf st) ps j e)
-  acts-judged len ps (Report n) e =
+  acts-judged len framed-so (Settled j) e =
+      let ps : Pieces = piecesOf (bodyIn len s) in
+      let low = safe .sound .expected in
+      let unbooked = ap (λ (b : Became). b .booked) (settled-speaks setup (sessionOf st) s len framed-so (omega arith) (omega arith) j e .became) in
+      acts-settled len ps j (judge-settles setup (sessionOf st) ps o-most low j e .onward) unbooked
+  acts-judged len framed-so (Report n) e =
+      let ps : Pieces = piecesOf (bodyIn len s) in
       let t = judge-report setup (sessionOf st) ps n e in
       let small = t .most in
       let low : st .kept .e < top = let z : n ≡ st .kept .e = t .number in omega arith in
       acts-ruled len ps n (reportedIn ps) refl low (report-lawful setup (st .phase) (st .kept .o) ps (t .fault) (t .kind))
 
-  acts-found : (f : Found) → Acts st (Message time s) (foundTo setup st time s f)
+  acts-found : (f : Found) → foundIn s ≡ f → Acts st (Message time s) (foundTo setup st time s f)
   unfolding foundTo framed deedOf
-  acts-found found.More = acts-quiet st (Message time s) More refl refl refl refl
-  acts-found (found.Garbled skip) = acts-quiet st (Message time s) (Garbled skip) refl refl refl refl
-  acts-found (found.Framed len) =
-      let ps : Pieces = piecesOf (bodyIn len s) in
-      acts-judged len ps (judge setup (sessionOf st) ps) refl
+  acts-found found.More e = acts-quiet st (Message time s) More refl refl refl refl
+  acts-found (found.Garbled skip) e = acts-quiet st (Message time s) (Garbled skip) refl refl refl refl
+  acts-found (found.Framed len) e = acts-judged len e (judge setup (sessionOf st) (piecesOf (bodyIn len s))) refl
 
   acts-message : Acts st (Message time s) (message setup st time s)
   unfolding message
-  acts-message = acts-found (foundIn s)
+  acts-message = acts-found (foundIn s) refl
 
 -- ---- the queue
 

@@ -55,7 +55,7 @@ use Rattle.receiver.specs.Calls.{owned, lost, settled, booked, Deed, Say as Say
 use Rattle.receiver.specs.Receiver.{What, Own-call, Line-lost, Message, Offer, Begin-again, Acknowledge, New-day, Restart, Lent, writing, refusalOf, unrefused, unless-refused, does}
 use Rattle.receiver.specs.declared.Answer.{Answer}
 use Rattle.receiver.specs.declared.Answer.the-variants as answer
-use Rattle.promise.specs.Sort.{sortOf}
+use Rattle.promise.specs.Sort.{sortOf, Became}
 use Rattle.promise.specs.World.{world}
 use Rattle.promise.specs.WrittenRead.{MessagesReadBack, Writable, NotesReadBack, Leads, Messages, fieldsIn, stampOf, wordIn, wordOf, hasReject, isRejected, Replies, CallsReadBack}
 use Rattle.promise.proofs.Executions.{or-false}
@@ -215,7 +215,7 @@ module _ (setup : Setup) (st : State) (time s : List ℕ) (ids : Agreed setup) (
     settled-replied : (j : Judged) → Speaks ps j → Good (settled setup st time len ps j)
     unfolding settled
     settled-replied j x =
-        replies-with setup (st .kept .o) time (wordIn s (found.Framed len)) (settled setup st time len ps j) (j .reply) ids stamp o-small refl (x .said) (x .rejected)
+        replies-with setup (st .kept .o) time (wordIn s (found.Framed len)) (settled setup st time len ps j) (j .reply) ids stamp o-small refl (x .said) (sym (ap (λ (b : Became). b .rejected) (x .became)))
 
     -- what is done where d is decided
     abbrev Does : Deed → Type 0
