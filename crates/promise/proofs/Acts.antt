@@ -50,7 +50,7 @@ use Rattle.receiver.specs.Receiver.{What, Own-call, Line-lost, Message, Offer, 
 use Rattle.receiver.specs.declared.Answer.{Answer}
 use Rattle.receiver.specs.declared.Answer.the-variants.{Done, Refused, More, Garbled, Framed, None, Acked, Already}
 use Rattle.promise.specs.Sort.{Became, becameOf, tellsOf}
-use Rattle.promise.specs.World.{isAgain, startsAgain, gave, Shown, showing, anew, linesOf}
+use Rattle.promise.specs.World.{isAgain, startsAgain, isRefused, gave, Shown, showing, anew, linesOf}
 use Rattle.promise.specs.Demand3.{numberTold}
 use Rattle.promise.proofs.Executions.{none-some, no-snoc, no-empty, lines-append}
 use Rattle.promise.proofs.Chain.{Says, NoteSays, Tells, Safe}
@@ -447,13 +447,16 @@ module _ (setup : Setup) where
 
 -- ---- a call without a note
 
-again-silent : (st : State) (o : Restarting) → (numberTold (restarted st o .answer) ≡ none) × (isAcked (restarted st o .answer) ≡ false)
+-- a restart that is not refused
+again-silent : (st : State) (o : Restarting) → isAgain o ≡ true
+    → (numberTold (restarted st o .answer) ≡ none) × (isAcked (restarted st o .answer) ≡ false) × (isRefused (restarted st o .answer) ≡ false)
 unfolding restarted
-again-silent st (Again q whole) = (refl, refl)
-again-silent st (Unlawful at) = (refl, refl)
+again-silent st (Again q whole) h = (refl, refl, refl)
+again-silent st (Unlawful at) h = contrary h refl
 
 module _ (setup : Setup) (st : State) (b : Lent) where
-  starting-silent : (w : What) → startsAgain w ≡ true → (numberTold (does setup st b w .answer) ≡ none) × (isAcked (does setup st b w .answer) ≡ false)
+  pub starting-silent : (w : What) → startsAgain w ≡ true
+      → (numberTold (does setup st b w .answer) ≡ none) × (isAcked (does setup st b w .answer) ≡ false) × (isRefused (does setup st b w .answer) ≡ false)
   unfolding does refusalOf unrefused
   starting-silent (Own-call own time) h = contrary h refl
   starting-silent Line-lost h = contrary h refl
@@ -462,7 +465,7 @@ module _ (setup : Setup) (st : State) (b : Lent) where
   starting-silent Begin-again h = contrary h refl
   starting-silent (Acknowledge n) h = contrary h refl
   starting-silent New-day h = contrary h refl
-  starting-silent (Restart notes) h = again-silent st (restart notes)
+  starting-silent (Restart notes) h = again-silent st (restart notes) h
 
   acts-silent : (w : What) (d : Did) → Acts st w d → d .note ≡ none → (numberTold (d .answer) ≡ none) × (isAcked (d .answer) ≡ false)
   acts-silent w d x e = (
@@ -479,5 +482,5 @@ module _ (setup : Setup) (st : State) (b : Lent) where
       → (numberTold (does setup st b w .answer) ≡ none) × (¬ (does setup st b w .answer ≡ Acked))
   silent w x e =
       let r : (numberTold (does setup st b w .answer) ≡ none) × (isAcked (does setup st b w .answer) ≡ false) =
-      ⊎-elim (λ h. starting-silent w h) (λ h. acts-silent w (does setup st b w) (x h) e) (bool-case (startsAgain w)) in
+      ⊎-elim (λ h. let y = starting-silent w h in (y .0, y .1)) (λ h. acts-silent w (does setup st b w) (x h) e) (bool-case (startsAgain w)) in
       (r .0, λ h. contrary (ap isAcked h) (r .1))
