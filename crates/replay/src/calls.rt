@@ -7,6 +7,7 @@ use receiver::Received;
 use receiver::Told;
 use session::Own;
 use tally::Tally;
+ghost use Rattle.io.specs.Counts.{Counts};
 
 // The bytes from place a to place b.
 pub(crate) fn between(s: &[u8], a: usize, b: usize) -> &[u8] {
@@ -26,6 +27,18 @@ fn own_call(w: World, own: Own, time: &[u8], reply: &mut [u8], note: &mut [u8]) 
         Own::Ask => receiver::test_request(setup, st, time, reply, note),
         Own::Close => receiver::close(setup, st, time, reply, note),
     }
+}
+
+// The message call.
+fn message_call(
+    w: World,
+    time: &[u8],
+    given: &[u8],
+    book: &mut [u8; BOOK],
+    reply: &mut [u8],
+    note: &mut [u8],
+) -> Received {
+    receiver::message(w.setup, w.state, w.tally, time, given, book, reply, note)
 }
 
 // The ledger's calls, the new day and the restart.
@@ -52,7 +65,17 @@ fn beside(told: Told, tally: Tally) -> Received {
     Received { told, tally }
 }
 
-// Hands the call to the receiver.
+// How much of a buffer is lent.
+fn lent_of(size: usize, buffer: &[u8]) -> usize
+    ensures { λ r. ⌜ Counts r (now (buffer .entry)) ⌝ }
+{
+    if size < buffer.len() {
+        return size;
+    }
+    buffer.len()
+}
+
+// Hands the call to the receiver, which is lent as much of each buffer as the script says.
 pub(crate) fn hand(
     w: World,
     ask: Ask,
@@ -62,17 +85,28 @@ pub(crate) fn hand(
     note: &mut [u8],
     listed: &mut [u8],
 ) -> Received {
-    let setup = w.setup;
-    let st = w.state;
+    let sizes = w.sizes;
+    let r = lent_of(sizes.reply, reply);
+    let n = lent_of(sizes.note, note);
+    let l = lent_of(sizes.line, listed);
     let tally = w.tally;
     match ask {
-        Ask::Own(own, end) => beside(own_call(w, own, between(bytes, 0, end), reply, note), tally),
-        Ask::Lost => beside(receiver::line_lost(st), tally),
+        Ask::Own(own, end) => {
+            let time = between(bytes, 0, end);
+            beside(
+                own_call(w, own, time, &mut reply[..r], &mut note[..n]),
+                tally,
+            )
+        }
+        Ask::Lost => beside(receiver::line_lost(w.state), tally),
         Ask::Message(middle, end) => {
             let time = between(bytes, 0, middle);
             let given = between(bytes, middle, end);
-            receiver::message(setup, st, tally, time, given, book, reply, note)
+            message_call(w, time, given, book, &mut reply[..r], &mut note[..n])
         }
-        Ask::Ledger(ask) => beside(ledger_call(w, ask, bytes, book, note, listed), tally),
+        Ask::Ledger(ask) => beside(
+            ledger_call(w, ask, bytes, book, &mut note[..n], &mut listed[..l]),
+            tally,
+        ),
     }
 }

@@ -21,7 +21,6 @@ use receiver::State;
 use receiver::Told;
 use tally::Tally;
 use text::Text;
-ghost use Rattle.io.specs.Counts.{Counts};
 
 // Every lent buffer is filled with this byte before a call.
 const FILLED: u8 = 238;
@@ -96,41 +95,6 @@ fn set_up(w: World, ours: &[u8], theirs: &[u8]) -> World {
 }
 
 // ---- a call: buffers are lent, and what came back is kept and shown
-
-// How much of a buffer is lent.
-fn lent_of(size: usize, buffer: &[u8]) -> usize
-    ensures { λ r. ⌜ Counts r (now (buffer .entry)) ⌝ }
-{
-    if size < buffer.len() {
-        return size;
-    }
-    buffer.len()
-}
-
-// Lends as much of each buffer as the script says.
-fn lend(
-    w: World,
-    ask: Ask,
-    bytes: &[u8],
-    book: &mut [u8; BOOK],
-    reply: &mut [u8],
-    note: &mut [u8],
-    listed: &mut [u8],
-) -> Received {
-    let sizes = w.sizes;
-    let r = lent_of(sizes.reply, reply);
-    let n = lent_of(sizes.note, note);
-    let l = lent_of(sizes.line, listed);
-    hand(
-        w,
-        ask,
-        bytes,
-        book,
-        &mut reply[..r],
-        &mut note[..n],
-        &mut listed[..l],
-    )
-}
 
 // How long the journal is after a call, or that it does not hold the note.
 enum Kept {
@@ -212,7 +176,7 @@ fn call(w: World, ask: Ask, bytes: &[u8], journal: &mut [u8], book: &mut [u8; BO
     let mut reply = [FILLED; LENT];
     let mut note = [FILLED; LENT];
     let mut listed = [FILLED; LENT];
-    let came = lend(w, ask, bytes, book, &mut reply, &mut note, &mut listed);
+    let came = hand(w, ask, bytes, book, &mut reply, &mut note, &mut listed);
     finish(w, came, bytes, journal, &reply, &note, &listed)
 }
 
