@@ -11,8 +11,9 @@ use Rattle.octet.specs.Maybe.{find, isNone}
 use Rattle.octet.specs.Places.{wordAt}
 use Rattle.fill.specs.Slot.{Slot, slotWidth, execOf, orderOf, sharesOf}
 use Rattle.answer.specs.Numbers.{largest}
-use Rattle.book.specs.Place.{sameExec, sameOrder, sumWhere, mostFills, mostOrders}
+use Rattle.book.specs.Place.{sameExec, sameOrder, byExec, sumWhere, mostFills, mostOrders}
 use Rattle.book.specs.Memory.{slotsIn, mostSlots}
+use Rattle.book.specs.declared.Placed.{Placed}
 use Rattle.book.specs.declared.Seen.{Seen}
 use Rattle.book.specs.declared.Glance.{Glance}
 
@@ -53,3 +54,7 @@ roomFor last fills orders known =
 
 abbrev pub ordersFor : ℕ → Slot → ℕ
 ordersFor orders known = min (cond (not (isNone (someSlot known))) orders (orders + 1)) largest
+
+-- where f is placed, from what a walk found: whatever the slots, among which `known` is the first of its order
+abbrev pub PlacedBy : Slot → Slot → Slot → Placed → Type 0
+PlacedBy f twin known r = (ss : List Slot) → someSlot known ≡ find (sameOrder f) ss → r ≡ byExec ss f (someSlot twin)

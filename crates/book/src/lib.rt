@@ -2,20 +2,18 @@
 // walk over them, and one fill more.
 ghost use mathlib.Core.Path.{_≡_};
 ghost use mathlib.Core.Bool.{cond};
-ghost use mathlib.Core.List.{List};
 ghost use Prim.Native.Nat.{_+_, _-_, _*_, _≤_, _<_, min};
 ghost use lib.ListN.{length};
 ghost use lib.Dec.{eqb};
 ghost use Rattle.octet.specs.Bytes.{same, part};
-ghost use Rattle.octet.specs.Maybe.{find};
 ghost use Rattle.octet.specs.Places.{wordAt};
 ghost use Rattle.answer.specs.Numbers.{fault, largest};
-ghost use Rattle.fill.specs.Slot.{Slot, slotWidth, execOf, orderOf, sharesOf, cumOf};
-ghost use Rattle.book.specs.Place.{sameContents, sameExec, sameOrder, byOrder, byExec, fillsWith, carried};
+ghost use Rattle.fill.specs.Slot.{slotWidth, execOf, orderOf, sharesOf, cumOf};
+ghost use Rattle.book.specs.Place.{sameContents, sameExec, sameOrder, byOrder, fillsWith, carried};
 ghost use Rattle.book.specs.Memory.{mostSlots, bookWidth, slotsIn, fitsAfter, appended, holding};
 ghost use Rattle.book.specs.declared.Placed.the-variants.{Clash};
 ghost use Rattle.book.specs.Admitting.{admitOf};
-ghost use Rattle.book.specs.Seeing.{someSlot, Sees, Passes, seenExec, seenOrder, roomFor, ordersFor};
+ghost use Rattle.book.specs.Seeing.{someSlot, Sees, Passes, seenExec, seenOrder, roomFor, ordersFor, PlacedBy};
 use answer::Fault;
 use answer::tags;
 use fill::ID;
@@ -275,7 +273,7 @@ fn by_order(slot: &[u8], known: &[u8]) -> Placed
 // Where a fill stands among the day's: "ExecID (17) known today: same .. is already booked ..; anything different is Reject 5
 // tag 17". twin is the fill with its ExecID, known the first one of its order; no bytes where there is none.
 fn by_exec(slot: &[u8], twin: &[u8], known: &[u8]) -> Placed
-    ensures { λ r. ⌜ ((ss : List Slot) → someSlot (now (known .entry)) ≡ find (sameOrder (now (slot .entry))) ss → r ≡ byExec ss (now (slot .entry)) (someSlot (now (twin .entry)))) ⌝ }
+    ensures { λ r. ⌜ PlacedBy (now (slot .entry)) (now (twin .entry)) (now (known .entry)) r ⌝ }
 {
     if twin.len() == 0 {
         return by_order(slot, known);

@@ -1,5 +1,5 @@
 // The list program: "reads notes from standard input" and prints their listing.
-use fill::BOOK;
+use book::BOOK;
 use listing::PAGE;
 
 // One byte more than the longest file tells that it is too long.

@@ -18,33 +18,33 @@ use Rattle.octet.proofs.Lists.{part-most, between-high, splice-join, splice-the
 use Rattle.text.specs.Decimal.{priceText}
 use Rattle.text.proofs.Decimals.{decimal-length, fixed-length}
 use Rattle.value.specs.Value.{isTime}
-use Rattle.fill.specs.Slot.{Slot, slotWidth, placeOf, widthOf, isFill, execOf, orderOf, symbolOf, sideOf, sharesOf, priceOf, timeOf, textsLawful, sumsLawful, slotLawful, lineOf}
+use Rattle.fill.specs.Slot.{Slot, slotWidth, placeOf, widthOf, isFill, execOf, orderOf, symbolOf, sideOf, sharesOf, priceOf, timeOf, textsLawful, sumsLawful, mostPrice, slotLawful, lineOf}
+use Rattle.answer.specs.Numbers.{mostContracts, largest}
 use Rattle.fill.proofs.Lawful.{lawful-sums}
-use Rattle.book.specs.Memory.{slotsIn}
+use Rattle.book.specs.Memory.{mostSlots, slotsIn}
 use Rattle.book.specs.Place.{sumWhere}
 use Rattle.book.proofs.Slots.{slots-length, slots-drop, slots-next, slots-last}
 use Rattle.note.specs.Kept.{Kept, waiting}
 use Rattle.note.proofs.Keeping.{AllLawful}
-use Rattle.restart.specs.Restart.{Outcome, Again, Unlawful, restart, countsOf, told, bookAfter}
+use Rattle.restart.specs.Restart.{Outcome, Again, Unlawful, restart, countsOf, told, bookAfter, HasSlots}
 use Rattle.restart.specs.declared.Counts.{Counts}
 use Rattle.restart.specs.declared.Restarted.the-variants as restarted
-use Rattle.restart.specs.Steps.{HasSlots}
 use Rattle.text.specs.declared.Text.{Text}
 use Rattle.text.specs.Writing.{empty, puts, held}
 use Rattle.text.proofs.Puts.{puts-puts, held-short}
 use Rattle.restart.proofs.Going.{GivenIn, restart-given}
-use Rattle.listing.specs.Listing.{contracts, linesFrom, firstOf, firstLine, damaged, waitingPage, printed, longestFile, isTooLong, tooLong, listing, bookListed}
+use Rattle.listing.specs.Listing.{contracts, linesFrom, firstOf, firstLine, damaged, waitingPage, printed, longestFile, isTooLong, tooLong, listing, bookListed, linesIn}
 
 -- ---- how long a line is: that of a lawful slot has at most 99 bytes
-lawful-figures : (s : Slot) → slotLawful s ≡ true → (sideOf s ≤ 2) × (priceOf s ≤ 99999999999)
+lawful-figures : (s : Slot) → slotLawful s ≡ true → (sideOf s ≤ 2) × (priceOf s ≤ mostPrice)
 unfolding slotLawful
 lawful-figures s t =
-    let a = and-left (textsLawful s && between 1 2 (sideOf s) && sumsLawful s && leb (priceOf s) 99999999999) (isTime (timeOf s)) t in
-    let b = and-both (textsLawful s && between 1 2 (sideOf s) && sumsLawful s) (leb (priceOf s) 99999999999) a in
+    let a = and-left (textsLawful s && between 1 2 (sideOf s) && sumsLawful s && leb (priceOf s) mostPrice) (isTime (timeOf s)) t in
+    let b = and-both (textsLawful s && between 1 2 (sideOf s) && sumsLawful s) (leb (priceOf s) mostPrice) a in
     let d = and-left (textsLawful s && between 1 2 (sideOf s)) (sumsLawful s) (b .0) in
-    (between-high 1 2 (sideOf s) (and-right (textsLawful s) (between 1 2 (sideOf s)) d), leb-true (priceOf s) 99999999999 (b .1))
+    (between-high 1 2 (sideOf s) (and-right (textsLawful s) (between 1 2 (sideOf s)) d), leb-true (priceOf s) mostPrice (b .1))
 
-pub lawful-shares : (s : Slot) → slotLawful s ≡ true → sharesOf s ≤ 999999
+pub lawful-shares : (s : Slot) → slotLawful s ≡ true → sharesOf s ≤ mostContracts
 lawful-shares s t =
     let f = lawful-sums s t in
     let a = f .cum in
@@ -79,11 +79,11 @@ lines-most [] n h w = omega arith
 lines-most (s ∷ ss) n h w =
     omega (arith, length-append (lineOf n s) (linesFrom (n + 1) ss), line-most n s (omega arith) (w .0), lines-most ss (n + 1) (omega arith) (w .1))
 
-sum-most : (ss : List Slot) → AllLawful ss → contracts ss ≤ 999999 * length ss
+sum-most : (ss : List Slot) → AllLawful ss → contracts ss ≤ mostContracts * length ss
 unfolding sumWhere
 sum-most [] w = omega arith
 sum-most (s ∷ ss) w =
-    let a : cond (isFill s) (sharesOf s) 0 ≤ 999999 = of-cond (λ (n : ℕ). n ≤ 999999) (isFill s) (λ e. lawful-shares s (w .0)) (λ e. omega arith) in
+    let a : cond (isFill s) (sharesOf s) 0 ≤ mostContracts = of-cond (λ (n : ℕ). n ≤ mostContracts) (isFill s) (λ e. lawful-shares s (w .0)) (λ e. omega arith) in
     omega (arith, sum-most ss (w .1))
 
 pub first-most : (n sum : ℕ) → n < 10 ^ 20 → sum < 10 ^ 20 → length (firstOf n sum) ≤ 60
@@ -195,25 +195,22 @@ pub write-start : (page whole : List ℕ) (at : ℕ) → (page ≡ splice page a
 write-start page whole at = (sym (ap (λ (k : ℕ). splice page at (take k whole)) (sub-self at) ∙ splice-nil page at), ap (λ (k : ℕ). drop k whole) (sub-self at))
 
 -- ---- the lines, from fill from + 1 on: so far up to place `end`, with those from the i-th on to come
-abbrev pub AllLines : ℕ → ℕ → List ℕ → List ℕ
-AllLines from fills book = linesFrom (from + 1) (drop from (slotsIn fills book))
-
 pub record Lined (page₀ book : List ℕ) (at from fills : ℕ) (page : List ℕ) (end i : ℕ) : Type 0 where
-  pub stands : page ≡ splice page₀ at (take (end - at) (AllLines from fills book))
-  pub to-come : drop (end - at) (AllLines from fills book) ≡ linesFrom (i + 1) (drop i (slotsIn fills book))
+  pub stands : page ≡ splice page₀ at (take (end - at) (linesIn from fills book))
+  pub to-come : drop (end - at) (linesIn from fills book) ≡ linesFrom (i + 1) (drop i (slotsIn fills book))
   pub after : at ≤ end
-  pub within : end - at ≤ length (AllLines from fills book)
+  pub within : end - at ≤ length (linesIn from fills book)
 
 pub lined-start : (page book : List ℕ) (at from fills : ℕ) → Lined page book at from fills page at from
 lined-start page book at from fills =
-    let g = write-start page (AllLines from fills book) at in
+    let g = write-start page (linesIn from fills book) at in
     record { stands = g .0; to-come = g .1; after = omega arith; within = omega arith }
 
-pub lined-turn : (page₀ book page page′ : List ℕ) (at from fills end i n len : ℕ) (s : Slot) → at + length (AllLines from fills book) ≤ length page₀
+pub lined-turn : (page₀ book page page′ : List ℕ) (at from fills end i n len : ℕ) (s : Slot) → at + length (linesIn from fills book) ≤ length page₀
     → Lined page₀ book at from fills page end i → i < fills → n ≡ i + 1 → s ≡ part (i * slotWidth) slotWidth book → page′ ≡ splice page end (lineOf n s) → len ≡ length (lineOf n s)
-    → Lined page₀ book at from fills page′ (end + len) (i + 1) × (end + len ≤ at + length (AllLines from fills book))
+    → Lined page₀ book at from fills page′ (end + len) (i + 1) × (end + len ≤ at + length (linesIn from fills book))
 lined-turn page₀ book page page′ at from fills end i n len s room h b en es ep el =
-    let whole = AllLines from fills book in
+    let whole = linesIn from fills book in
     let rest = linesFrom (i + 1 + 1) (drop (i + 1) (slotsIn fills book)) in
     let done = end - at in
     let x = lineOf (i + 1) s in
@@ -236,10 +233,10 @@ lined-turn page₀ book page page′ at from fills end i n len s room h b en es 
     )
 
 pub lined-done : (page₀ book page : List ℕ) (at from fills end i : ℕ) → Lined page₀ book at from fills page end i → fills ≤ i
-    → (page ≡ splice page₀ at (AllLines from fills book)) × (end ≡ at + length (AllLines from fills book))
+    → (page ≡ splice page₀ at (linesIn from fills book)) × (end ≡ at + length (linesIn from fills book))
 lined-done page₀ book page at from fills end i h b =
     let a = h .after in
-    let g = write-done page₀ (AllLines from fills book) at (end - at) page (h .stands) (h .within) (h .to-come ∙ lines-done fills i book b) in
+    let g = write-done page₀ (linesIn from fills book) at (end - at) page (h .stands) (h .within) (h .to-come ∙ lines-done fills i book b) in
     let l = g .1 in
     (g .0, omega arith)
 
@@ -276,9 +273,9 @@ never : {A : Type 0} → _≡_ {A = ℕ} 0 1 → A
 never z = absurd (omega arith)
 
 pub record Paged (o : Outcome) (k : Counts) (book : List ℕ) : Type 0 where
-  pub page : waitingPage (k .acked) (slotsIn (k .fills) book) ≡ printed o
-  pub few : k .fills ≤ 512
-  pub mark : k .acked ≤ k .fills
+  pub page : waitingPage (k .acked) (slotsIn (k .last) book) ≡ printed o
+  pub few : k .last ≤ mostSlots
+  pub mark : k .acked ≤ k .last
 
 pub paged : (o : Outcome) (k : Counts) (whole most : ℕ) (book : List ℕ) → restarted.Again k whole ≡ told o → GivenIn most o → HasSlots book o → Paged o k book
 paged (Unlawful at) k whole most book e g h = never cc
@@ -308,16 +305,16 @@ damaged-at (Unlawful p) at most e g = let f : at ≡ p = cc in omega arith
 
 -- ---- the page of the waiting fills: its first line stands, and there is room for the others
 module _ (f k sum end : ℕ) (book page page₁ : List ℕ) (t : Text) where
-  pub headed : k ≤ f → f ≤ 512 → length (waitingPage k (slotsIn f book)) ≤ length page → sum ≡ contracts (drop k (slotsIn f book)) → sum ≤ 2199023255040
+  pub headed : k ≤ f → f ≤ mostSlots → length (waitingPage k (slotsIn f book)) ≤ length page → sum ≡ contracts (drop k (slotsIn f book)) → sum ≤ mostSlots * largest
       → t ≡ puts empty (firstOf (f - k) sum) → page₁ ≡ splice page 0 (held t) → end ≡ cond (fitsAt page 0 (held t)) (0 + length (held t)) 0
-      → (page₁ ≡ splice page 0 (firstLine (drop k (slotsIn f book)))) × (end ≡ length (firstLine (drop k (slotsIn f book)))) × (end + length (AllLines k f book) ≤ length page₁)
+      → (page₁ ≡ splice page 0 (firstLine (drop k (slotsIn f book)))) × (end ≡ length (firstLine (drop k (slotsIn f book)))) × (end + length (linesIn k f book) ≤ length page₁)
   headed hk hf room es hs et ep en =
       let first = firstLine (drop k (slotsIn f book)) in
       let ld : length (drop k (slotsIn f book)) ≡ f - k = length-drop k (slotsIn f book) ∙ ap (λ (n : ℕ). n - k) (slots-length f book) in
       let ex : firstOf (f - k) sum ≡ first = ap₂ firstOf (sym ld) es in
       let short = first-most (f - k) sum (omega arith) (omega arith) in
       let lx = ap length ex in
-      let whole = length-append first (AllLines k f book) in
+      let whole = length-append first (linesIn k f book) in
       let g = placed page page₁ (firstOf (f - k) sum) t end et (omega arith) (omega arith) ep en in
       let lp : length page₁ ≡ length page = ap length (g .0) ∙ splice-length page 0 (firstOf (f - k) sum) in
       let e : end ≡ length first = g .1 ∙ lx in

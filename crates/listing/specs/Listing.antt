@@ -1,13 +1,17 @@
 -- "What the listing prints".
 use Prim.Native.Nat.{ℕ, _+_}
+use mathlib.Core.Path.{_≡_}
 use mathlib.Core.List.{List, [], _∷_, _++_}
 use mathlib.Core.Bool.{Bool, cond}
 use lib.ListN.{length, drop}
 use lib.Dec.{ltb}
 use Rattle.octet.specs.Bytes.{bytesOf}
+use Rattle.octet.specs.Splice.{splice}
 use Rattle.text.specs.Decimal.{decimal}
 use Rattle.fill.specs.Slot.{Slot, isFill, lineOf, lineFeed}
+use Rattle.book.specs.Memory.{slotsIn}
 use Rattle.book.specs.Place.{sumWhere}
+use Rattle.note.specs.Notes.{written}
 use Rattle.restart.specs.Restart.{Outcome, Again, Unlawful, restart, bookAfter}
 
 -- the contracts of fills: the sum of their LastShares
@@ -54,3 +58,24 @@ listing notes = cond (isTooLong notes) tooLong (printed (restart notes))
 -- the lent book after it: that of the restart, which a file that is too long does not come to
 unfoldable pub bookListed : List ℕ → List ℕ → List ℕ
 bookListed book notes = cond (isTooLong notes) book (bookAfter book (restart notes))
+
+-- ---- from a memory, as the code has it
+
+-- the lines of the slots after number `from`, up to the last
+abbrev pub linesIn : ℕ → ℕ → List ℕ → List ℕ
+linesIn from last book = linesFrom (from + 1) (drop from (slotsIn last book))
+
+abbrev pub waitingIn : ℕ → ℕ → List ℕ → List ℕ
+waitingIn acked last book = waitingPage acked (slotsIn last book)
+
+-- what printing the waiting ones answers, and what stands on the page
+abbrev pub PrintsWaiting : ℕ → ℕ → List ℕ → List ℕ → ℕ → List ℕ → Type 0
+PrintsWaiting acked last book page r page′ = (page′ ≡ splice page 0 (waitingIn acked last book)) × (r ≡ length (waitingIn acked last book))
+
+-- what printing on a page that has room answers, and what stands on the page and in the book
+abbrev pub Prints : List ℕ → List ℕ → List ℕ → ℕ → List ℕ → List ℕ → Type 0
+Prints notes book page r book′ page′ = (page′ ≡ splice page 0 (listing notes)) × (r ≡ length (listing notes)) × (book′ ≡ bookListed book notes)
+
+-- what the listing answers, and what stands in the book and in the lent bytes
+abbrev pub Lists : List ℕ → List ℕ → List ℕ → ℕ → List ℕ → List ℕ → Type 0
+Lists notes book out r book′ out′ = (r ≡ written out (listing notes)) × (out′ ≡ splice out 0 (listing notes)) × (book′ ≡ bookListed book notes)

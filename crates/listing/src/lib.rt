@@ -1,15 +1,15 @@
 // The listing of a file of notes: the fills that wait, and their contracts.
 ghost use mathlib.Core.Path.{_≡_};
 ghost use mathlib.Core.Bool.{cond};
-ghost use Prim.Native.Nat.{_+_, _-_, _≤_};
+ghost use Prim.Native.Nat.{_+_, _*_, _≤_};
 ghost use lib.ListN.{length, drop};
 ghost use Rattle.octet.specs.Splice.{splice};
-ghost use Rattle.fill.specs.Slot.{isFill, sharesOf, lineOf, bookWidth};
-ghost use Rattle.book.specs.Memory.{slotsIn};
+ghost use Rattle.answer.specs.Numbers.{largest};
+ghost use Rattle.fill.specs.Slot.{isFill, sharesOf, lineOf};
+ghost use Rattle.book.specs.Memory.{mostSlots, slotsIn};
 ghost use Rattle.text.specs.Writing.{empty, puts};
-ghost use Rattle.note.specs.Notes.{written};
-ghost use Rattle.listing.specs.Listing.{contracts, linesFrom, firstOf, damaged, waitingPage, listing, bookListed};
-use fill::BOOK;
+ghost use Rattle.listing.specs.Listing.{contracts, firstOf, damaged, longestFile, linesIn, waitingIn, PrintsWaiting, Prints, Lists};
+use book::BOOK;
 use fill::LINE;
 use restart::Counts;
 use restart::Restarted;
@@ -34,7 +34,7 @@ fn damaged_text(at: u64) -> Text
 
 // LastShares of a slot that is a fill, else 0.
 fn shares_in(s: &[u8]) -> u64
-    ensures { λ r. ⌜ (r ≡ cond (isFill (now (s .entry))) (sharesOf (now (s .entry))) 0) × (r ≤ 4294967295) ⌝ }
+    ensures { λ r. ⌜ (r ≡ cond (isFill (now (s .entry))) (sharesOf (now (s .entry))) 0) × (r ≤ largest) ⌝ }
 {
     if fill::is_fill(s) {
         return wide(fill::shares_of(s));
@@ -43,19 +43,19 @@ fn shares_in(s: &[u8]) -> u64
 }
 
 fn wide(n: u32) -> u64
-    ensures { λ r. ⌜ (r ≡ n) × (r ≤ 4294967295) ⌝ }
+    ensures { λ r. ⌜ (r ≡ n) × (r ≤ largest) ⌝ }
 {
     n as u64
 }
 
-// The contracts of the fills from number from + 1 to number fills.
-fn sum_from(book: &[u8; BOOK], from: usize, fills: usize) -> u64
-    requires { ⌜ fills ≤ 512 ⌝ }
-    ensures { λ r. ⌜ (r ≡ contracts (drop from (slotsIn fills (now (book .entry))))) × (r ≤ 2199023255040) ⌝ }
+// The contracts of the fills from number from + 1 to the last.
+fn sum_from(book: &[u8; BOOK], from: usize, last: usize) -> u64
+    requires { ⌜ last ≤ mostSlots ⌝ }
+    ensures { λ r. ⌜ (r ≡ contracts (drop from (slotsIn last (now (book .entry))))) × (r ≤ mostSlots * largest) ⌝ }
 {
     let mut sum: u64 = 0;
     let mut i = from;
-    while i < fills {
+    while i < last {
         sum += shares_in(book::slot_at(book, i));
         i += 1;
     }
@@ -73,20 +73,20 @@ fn put_line(page: &mut [u8], at: usize, n: u32, slot: &[u8]) -> usize
 }
 
 fn narrow(n: usize) -> u32
-    requires { ⌜ n ≤ 512 ⌝ }
+    requires { ⌜ n ≤ mostSlots ⌝ }
     ensures { λ r. ⌜ r ≡ n ⌝ }
 {
     n as u32
 }
 
 // Writes the lines of the fills after number from, and says where they end.
-fn put_lines(page: &mut [u8], at: usize, book: &[u8; BOOK], from: usize, fills: usize) -> usize
-    requires { ⌜ (fills ≤ 512) × (at + length (linesFrom (from + 1) (drop from (slotsIn fills (now book)))) ≤ length (now page)) ⌝ }
-    ensures { λ r. ⌜ (now (page .exit) ≡ splice (now (page .entry)) at (linesFrom (from + 1) (drop from (slotsIn fills (now (book .entry)))))) × (r ≡ at + length (linesFrom (from + 1) (drop from (slotsIn fills (now (book .entry)))))) ⌝ }
+fn put_lines(page: &mut [u8], at: usize, book: &[u8; BOOK], from: usize, last: usize) -> usize
+    requires { ⌜ (last ≤ mostSlots) × (at + length (linesIn from last (now book)) ≤ length (now page)) ⌝ }
+    ensures { λ r. ⌜ (now (page .exit) ≡ splice (now (page .entry)) at (linesIn from last (now (book .entry)))) × (r ≡ at + length (linesIn from last (now (book .entry)))) ⌝ }
 {
     let mut end = at;
     let mut i = from;
-    while i < fills {
+    while i < last {
         end += put_line(page, end, narrow(i + 1), book::slot_at(book, i));
         i += 1;
     }
@@ -101,20 +101,20 @@ fn size(n: u32) -> usize
 
 // Writes the listing of the fills that wait, and says how long it is.
 fn print_waiting(m: Counts, book: &[u8; BOOK], page: &mut [u8]) -> usize
-    requires { ⌜ (m .fills ≤ 512) × (m .acked ≤ m .fills) × (length (waitingPage (m .acked) (slotsIn (m .fills) (now book))) ≤ length (now page)) ⌝ }
-    ensures { λ r. ⌜ (now (page .exit) ≡ splice (now (page .entry)) 0 (waitingPage (m .acked) (slotsIn (m .fills) (now (book .entry))))) × (r ≡ length (waitingPage (m .acked) (slotsIn (m .fills) (now (book .entry))))) ⌝ }
+    requires { ⌜ (m .last ≤ mostSlots) × (m .acked ≤ m .last) × (length (waitingIn (m .acked) (m .last) (now book)) ≤ length (now page)) ⌝ }
+    ensures { λ r. ⌜ PrintsWaiting (m .acked) (m .last) (now (book .entry)) (now (page .entry)) r (now (page .exit)) ⌝ }
 {
-    let fills = size(m.fills);
+    let last = size(m.last);
     let acked = size(m.acked);
-    let sum = sum_from(book, acked, fills);
-    let end = first_text((fills - acked) as u64, sum).place(page, 0);
-    put_lines(page, end, book, acked, fills)
+    let sum = sum_from(book, acked, last);
+    let end = first_text((last - acked) as u64, sum).place(page, 0);
+    put_lines(page, end, book, acked, last)
 }
 
 // Writes the listing over a page that has room for any, and says how long it is.
 fn print(notes: &[u8], book: &mut [u8; BOOK], page: &mut [u8]) -> usize
-    requires { ⌜ length (now page) ≡ 65536 ⌝ }
-    ensures { λ r. ⌜ (now (page .exit) ≡ splice (now (page .entry)) 0 (listing (now (notes .entry)))) × (r ≡ length (listing (now (notes .entry)))) × (now (book .exit) ≡ bookListed (now (book .entry)) (now (notes .entry))) ⌝ }
+    requires { ⌜ length (now page) ≡ longestFile ⌝ }
+    ensures { λ r. ⌜ Prints (now (notes .entry)) (now (book .entry)) (now (page .entry)) r (now (book .exit)) (now (page .exit)) ⌝ }
 {
     if PAGE < notes.len() {
         octet::copy_into(page, 0, b"too long\n");
@@ -129,7 +129,7 @@ fn print(notes: &[u8], book: &mut [u8; BOOK], page: &mut [u8]) -> usize
 // Writes the listing of the notes from the front of out, and says how long it is; where it does not fit nothing is written, and
 // the answer is 0. PAGE bytes are always enough. The lent book is then that of the restart.
 pub fn write_listing(notes: &[u8], book: &mut [u8; BOOK], out: &mut [u8]) -> usize
-    ensures { λ r. ⌜ (r ≡ written (now (out .entry)) (listing (now (notes .entry)))) × (now (out .exit) ≡ splice (now (out .entry)) 0 (listing (now (notes .entry)))) × (now (book .exit) ≡ bookListed (now (book .entry)) (now (notes .entry))) ⌝ }
+    ensures { λ r. ⌜ Lists (now (notes .entry)) (now (book .entry)) (now (out .entry)) r (now (book .exit)) (now (out .exit)) ⌝ }
 {
     let mut page = [0u8; PAGE];
     let n = print(notes, book, &mut page);

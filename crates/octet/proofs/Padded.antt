@@ -11,7 +11,7 @@ use lib.Seq.{take-append-seam, drop-append-seam, length-take-le}
 use borrow.Author.Tests.{le-leb, lt-leb, leb-true}
 use Rattle.octet.specs.Bytes.{between, allIn, same, part}
 use Rattle.octet.specs.Splice.{splice, fitsAt}
-use Rattle.octet.specs.Padded.{fitsWidth, padded, textOf, paddedOk}
+use Rattle.octet.specs.Padded.{fitsWidth, padded, PutsPadded, textOf, paddedOk}
 use Rattle.octet.proofs.Cases.{and-both, and-left, and-right, and-make, and-no-left, and-no-right, bool-ext}
 use Rattle.octet.proofs.Lists.{is-between, is-below, is-above, part-all, between-low, between-high, same-true, same-of, fits-true, fits-false, set-splice, splice-join, splice-out, splice-read}
 
@@ -172,14 +172,10 @@ ok-fits least low high f h b e =
 -- ---- writing it: the length byte, the text, the zeros
 module _ (d : List ℕ) (at width : ℕ) (t : List ℕ) where
   -- what is answered, and what stands there then
-  abbrev pub PutPadded : Bool → List ℕ → Type 0
-  PutPadded r d′ =
-      (r ≡ fitsWidth width t && fitsAt d at (padded width t)) × (d′ ≡ cond (fitsWidth width t) (splice d at (padded width t)) d)
-
-  pub put-unfit : fitsWidth width t ≡ false → PutPadded false d
+  pub put-unfit : fitsWidth width t ≡ false → PutsPadded d at width t false d
   put-unfit e = (sym (rw e), sym (rw e))
 
-  pub put-no-room : fitsWidth width t ≡ true → length d < at + width → PutPadded false d
+  pub put-no-room : fitsWidth width t ≡ true → length d < at + width → PutsPadded d at width t false d
   put-no-room e h =
       let l : length d < at + length (padded width t) = omega (arith, padded-length width t e) in
       (sym (rw e (fits-false d at (padded width t) l)), sym (rw e (splice-out d at (padded width t) l)))
@@ -195,7 +191,7 @@ module _ (d : List ℕ) (at width : ℕ) (t : List ℕ) where
       ∙ splice-join d at (length t ∷ t) (replicate (width - 1 - length t) 0) (omega (arith, zeros-length (width - 1 - length t)))
 
   pub put-whole : fitsWidth width t ≡ true → at + width ≤ length d
-      → PutPadded true (splice (splice (set d at (length t)) (at + 1) t) (at + 1 + length t) (replicate (width - 1 - length t) 0))
+      → PutsPadded d at width t true (splice (splice (set d at (length t)) (at + 1) t) (at + 1 + length t) (replicate (width - 1 - length t) 0))
   put-whole e h =
       let l : at + length (padded width t) ≤ length d = omega (arith, padded-length width t e) in
       (sym (rw e (fits-true d at (padded width t) l)), whole e h ∙ sym (rw e))

@@ -3,12 +3,12 @@
 use Prim.Native.Nat.{ℕ}
 use mathlib.Core.Path.{_≡_, sym, _∙_}
 use mathlib.Core.List.{List}
-use mathlib.Core.Bool.{Bool, cond, _&&_}
+use mathlib.Core.Bool.{Bool}
 use lib.ListN.{getD, replicate}
 use Rattle.octet.specs.Bytes.{same, agree, part, untilByte, runIn, allIn}
 use Rattle.octet.specs.Places.{wordAt, high, bigEndian}
 use Rattle.octet.specs.Splice.{splice, fitsAt}
-use Rattle.octet.specs.Padded.{fitsWidth, padded, textOf, paddedOk}
+use Rattle.octet.specs.Padded.{PutsPadded, textOf, paddedOk}
 
 -- r is what the definition says
 abbrev pub Answer : {A : Type 0} → A → A → Type 0
@@ -79,8 +79,5 @@ module _ (d : List ℕ) (at : ℕ) {r r′ : Bool} {d′ d″ : List ℕ} where
       → (r ≡ r′) × (d′ ≡ d″)
   put-zeros-one n p q = copy-into-one (replicate n 0) p q
 
-  pub put-padded-one : (width : ℕ) (t : List ℕ)
-      → Writes (fitsWidth width t && fitsAt d at (padded width t)) (cond (fitsWidth width t) (splice d at (padded width t)) d) r d′
-      → Writes (fitsWidth width t && fitsAt d at (padded width t)) (cond (fitsWidth width t) (splice d at (padded width t)) d) r′ d″
-      → (r ≡ r′) × (d′ ≡ d″)
+  pub put-padded-one : (width : ℕ) (t : List ℕ) → PutsPadded d at width t r d′ → PutsPadded d at width t r′ d″ → (r ≡ r′) × (d′ ≡ d″)
   put-padded-one width t p q = one-writing p q

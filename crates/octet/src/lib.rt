@@ -2,12 +2,11 @@
 // and texts with a length byte and zero padding.
 ghost use mathlib.Core.Path.{_≡_};
 ghost use Prim.Native.Nat.{_+_, _-_, _*_, _^_, _≤_, _<_};
-ghost use mathlib.Core.Bool.{cond, _&&_};
 ghost use lib.ListN.{length, getD, replicate};
 ghost use Rattle.octet.specs.Bytes.{same, agree, part, untilByte, runIn, allIn};
 ghost use Rattle.octet.specs.Places.{LowFirst, numberIn, wordAt, high, bigEndian};
 ghost use Rattle.octet.specs.Splice.{splice, fitsAt};
-ghost use Rattle.octet.specs.Padded.{fitsWidth, padded, textOf, paddedOk};
+ghost use Rattle.octet.specs.Padded.{PutsPadded, textOf, paddedOk};
 
 // The byte at place i, 0 past the end.
 pub fn byte_at(s: &[u8], i: usize) -> u8
@@ -243,7 +242,7 @@ pub fn put_zeros(dst: &mut [u8], at: usize, n: usize) -> bool
 // Writes the text t over dst from place `at` on, as a field of that width: a length byte, the text, zero padding. Where
 // the field does not hold the text, or dst not the field, nothing changes, and the answer is false.
 pub fn put_padded(dst: &mut [u8], at: usize, width: usize, t: &[u8]) -> bool
-    ensures { λ r. ⌜ (r ≡ fitsWidth width (now (t .entry)) && fitsAt (now (dst .entry)) at (padded width (now (t .entry)))) × (now (dst .exit) ≡ cond (fitsWidth width (now (t .entry))) (splice (now (dst .entry)) at (padded width (now (t .entry)))) (now (dst .entry))) ⌝ }
+    ensures { λ r. ⌜ PutsPadded (now (dst .entry)) at width (now (t .entry)) r (now (dst .exit)) ⌝ }
 {
     if width <= t.len() {
         return false;

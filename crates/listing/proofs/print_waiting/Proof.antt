@@ -8,8 +8,8 @@ use denote.Ref.{now}
 use mathlib.Core.Path.{subst}
 use Rattle.octet.specs.Splice.{splice}
 use Rattle.book.specs.Memory.{slotsIn}
-use Rattle.listing.specs.Listing.{firstLine, waitingPage, listing}
-use Rattle.listing.proofs.Pages.{AllLines, headed, page-whole}
+use Rattle.listing.specs.Listing.{firstLine, waitingPage, listing, linesIn}
+use Rattle.listing.proofs.Pages.{headed, page-whole}
 use Rattle.listing.proofs.print_waiting.Statement.{statement}
 use Rattle.listing.proofs.print_waiting.Tie as tie
 
@@ -48,7 +48,7 @@ returns c =
     let mark = pre .1 in
     let g = headed f k _ _ book page _ _ (omega arith) (omega arith) room (u .0) (u .1) (c .before .before .before .before .before .before .before .before .first-text .ensures) (p .0) (p .1) in
     let l = c .before .before .put-lines .ensures in
-    let w = page-whole page _ _ (firstLine (drop k (slotsIn f book))) (AllLines k f book) _ _ room (g .0) (g .1) (l .0) (l .1) in
+    let w = page-whole page _ _ (firstLine (drop k (slotsIn f book))) (linesIn k f book) _ _ room (g .0) (g .1) (l .0) (l .1) in
     (w .0 ∙ ap₂ (λ (x y : ℕ). splice page 0 (waitingPage y (slotsIn x book))) ef ek, w .1 ∙ ap₂ (λ (x y : ℕ). length (waitingPage y (slotsIn x book))) ef ek)
 
 pub print-waiting-spec : {M : Type 1} → statement M

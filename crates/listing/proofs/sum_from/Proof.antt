@@ -5,17 +5,18 @@ use Prim.Native.Nat.{_+_, _-_, _*_, _≤_}
 use native.Mathlib.Omega.{arith}
 use lib.ListN.{drop}
 use denote.Ref.{now}
-use Rattle.book.specs.Memory.{slotsIn}
+use Rattle.book.specs.Memory.{mostSlots, slotsIn}
+use Rattle.answer.specs.Numbers.{largest}
 use Rattle.listing.specs.Listing.{contracts}
 use Rattle.listing.proofs.Pages.{sum-step, sum-done}
 use Rattle.listing.proofs.sum_from.Statement.{statement}
 use Rattle.listing.proofs.sum_from.Tie as tie
 
 abbrev Inv-loop : tie.InvT-loop
-Inv-loop book from fills sum₀ i₀ sum i = (sum + contracts (drop i (slotsIn fills book)) ≡ contracts (drop from (slotsIn fills book))) × (sum + (fills - i) * 4294967295 ≤ 2199023255040)
+Inv-loop book from last sum₀ i₀ sum i = (sum + contracts (drop i (slotsIn last book)) ≡ contracts (drop from (slotsIn last book))) × (sum + (last - i) * largest ≤ mostSlots * largest)
 
 abbrev μ-loop : tie.MeasureT-loop
-μ-loop book from fills sum₀ i₀ sum i = fills - i
+μ-loop book from last sum₀ i₀ sum i = last - i
 
 loop-holds : tie.Need-loop-holds Inv-loop μ-loop
 loop-holds c = (omega arith, omega arith)
@@ -38,7 +39,7 @@ loop-again c =
     let u = c .shares-in .ensures .1 in
     let w = v .1 in
     let z = v .0 in
-    let y = sum-step (a .fills) (h .i) (now (a .book)) (now (c .before .slot-at .result)) (omega arith) (c .before .slot-at .ensures) in
+    let y = sum-step (a .last) (h .i) (now (a .book)) (now (c .before .slot-at .result)) (omega arith) (c .before .slot-at .ensures) in
     (omega arith, omega arith)
 
 returns : tie.Need-returns Inv-loop μ-loop
@@ -48,7 +49,7 @@ returns c =
     let v = h .inv in
     let w = v .1 in
     let z = v .0 in
-    let y = sum-done (a .fills) (h .i) (now (a .book)) (omega arith) in
+    let y = sum-done (a .last) (h .i) (now (a .book)) (omega arith) in
     (omega arith, omega arith)
 
 pub sum-from-spec : {M : Type 1} → statement M
