@@ -25,7 +25,10 @@ loop-again c =
     let f = t .before .before .before .before .before in
     let g = f .before .before .before in
     let l = g .before .before .before .before .before .before in
-    (g .lengthen .kept .0 ∙ l .loop .inv .0, t .take-line .kept .1 .1 .1 .0 ∙ l .loop .inv .1, t .take-line .kept .1 .1 .1 .1 .0 ∙ l .loop .inv .2, omega (arith, f .if1 .left))
+    let line = g .lengthen .kept .0 ∙ l .loop .inv .0 in
+    let bytes = t .take-line .kept .1 .1 .1 .0 ∙ l .loop .inv .1 in
+    let journal = t .take-line .kept .1 .1 .1 .1 .0 ∙ l .loop .inv .2 in
+    (line, bytes, journal, omega (arith, f .if1 .left))
 
 pub take-piece-spec : {M : Type 1} → statement M
 take-piece-spec =
