@@ -23,6 +23,7 @@ use Rattle.frame.specs.Finding.{foundIn, bodyIn}
 use Rattle.frame.specs.declared.Found.{Found}
 use Rattle.frame.specs.declared.Found.the-variants as found
 use Rattle.field.specs.Pieces.{Pieces, piecesOf}
+use Rattle.field.specs.Look.{lookOf}
 use Rattle.fill.specs.Slot.{Slot, lineOf, slotLawful, fillMark}
 use Rattle.book.specs.Place.{place, isNew, hasRoom}
 use Rattle.book.specs.declared.Placed.{Placed}
@@ -242,17 +243,17 @@ module _ (setup : Setup) (st : State) (time s : List ℕ) (safe : Safe (st .kept
       acts-rejected len ps n f l
 
   acts-ruled : (len : ℕ) (ps : Pieces) (n : ℕ) (r : Reported) → reportedIn ps ≡ r → st .kept .e < top
-      → (ruleFault (reportIn ps) ≡ none → Lawful (slotIn ps)) → Acts st (Message time s) (carriedOut setup st time len ps (ruled st ps n r))
+      → (ruleFault (reportIn ps) ≡ none → Lawful (slotIn ps)) → Acts st (Message time s) (carriedOut setup st time len ps (ruled st (lookOf ps) n r))
   unfolding carriedOut ruled
   acts-ruled len ps n (reported.Faulty f) e l law =
       acts-rejected len ps n f l
   acts-ruled len ps n reported.Aside e l law =
       acts-passed len ps outcome.Aside l refl
   acts-ruled len ps n reported.Fill e l law =
-      acts-placed len ps n (place (st .kept .slots) (slotIn ps)) l (law (fill-told (reportIn ps) e .0)) refl
+      acts-placed len ps n (place (st .kept .slots) (slotIn ps)) l (law (fill-told (lookOf ps) e .0)) refl
 
   acts-judged : (len : ℕ) → foundIn s ≡ found.Framed len → (v : Verdict) → judge setup (sessionOf st) (piecesOf (bodyIn len s)) ≡ v
-      → Acts st (Message time s) (carriedOut setup st time len (piecesOf (bodyIn len s)) (judgedBy st (piecesOf (bodyIn len s)) v))
+      → Acts st (Message time s) (carriedOut setup st time len (piecesOf (bodyIn len s)) (judgedBy st (lookOf (piecesOf (bodyIn len s))) v))
   unfolding carriedOut judgedBy
   acts-judged len framed-so (Settled j) e =
       let ps : Pieces = piecesOf (bodyIn len s) in

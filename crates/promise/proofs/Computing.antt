@@ -20,6 +20,7 @@ use Rattle.note.specs.Kept as kept
 use Rattle.note.specs.Kinds as kinds
 use Rattle.note.specs.Notes as notes
 use Rattle.report.specs.Report as report
+use Rattle.session.specs.Reading as reading
 use Rattle.session.specs.Judging as judging
 use Rattle.session.specs.Session as session
 use Rattle.restart.specs.Restart as restart
@@ -48,7 +49,7 @@ unfolding finding.skipOf finding.bodyOk finding.judgeWhole finding.judgeLength f
 framing = tt
 
 unfoldable pub fielding : Unit {0}
-unfolding pieces.piecesOf pieces.carries pieces.valuesOf pieces.pieceScan pieces.scanOf
+unfolding pieces.piecesOf pieces.carries pieces.valuesOf pieces.countOf pieces.pieceScan pieces.scanOf
 fielding = tt
 
 unfoldable pub tables : Unit {0}
@@ -64,11 +65,11 @@ unfolding report.reportOf report.ruleFault report.reportedOf report.slotFor
 reports = tt
 
 unfoldable pub steps1to3 : Unit {0}
-unfolding judging.factsOf judging.factsIn judging.byPhase judging.judgedBy judging.judge judging.step3 session.ownCall
+unfolding reading.factsOf reading.factsIn judging.byPhase judging.judgedBy judging.judge judging.step3 session.ownCall
 steps1to3 = tt
 
 unfoldable pub sessions : Unit {0}
-unfolding steps1to3 judging.rejectedIf judging.filledTo judging.movedTo judging.loggedOut judging.effect judging.inTurn judging.dueBy judging.gap judging.step4
+unfolding steps1to3 judging.rejectedIf judging.filledTo judging.moved judging.loggedOut judging.effect judging.inTurn judging.due judging.gap judging.step4
 sessions = tt
 
 unfoldable pub books : Unit {0}

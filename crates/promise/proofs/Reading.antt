@@ -27,6 +27,7 @@ use Rattle.frame.specs.declared.Found.the-variants as found
 use Rattle.frame.proofs.Bodies.{body-parts}
 use Rattle.frame.proofs.Sound.{sound}
 use Rattle.field.specs.Pieces.{Pieces, onFirst, piecesOf, tagged, valued, carries, valuesOf, textAt, pieceScan, andThen, scanOf}
+use Rattle.field.specs.Look.{Look, lookOf}
 use Rattle.field.specs.declared.Scan.{Scan}
 use Rattle.field.specs.declared.Scan.the-variants as scan
 use Rattle.field.proofs.Cuts.{pieces-mark}
@@ -38,7 +39,7 @@ use Rattle.answer.specs.declared.Phase.{Phase}
 use Rattle.answer.specs.declared.Kind.{Kind}
 use Rattle.answer.specs.declared.Kind.the-variants as kind
 use Rattle.table.specs.Rows.{tableOf, kindIn}
-use Rattle.table.specs.Steps.{Look, atPieces, givenOf, checkFault, valueCheck, rowFault, applies, rowFaultAt, walk, scanFault, kindFault, firstFault, faultIn}
+use Rattle.table.specs.Steps.{givenOf, checkFault, valueCheck, tagFault, applies, rowFault, walk, scanFault, kindFault, firstFault, faultIn}
 use Rattle.table.specs.declared.Row.{Row}
 use Rattle.table.specs.declared.Row.the-variants as row
 use Rattle.table.specs.declared.Given.{Given}
@@ -271,24 +272,24 @@ check-small tag check.Good h = tt
 check-small tag (check.BadForm at) h = (omega arith, omega arith)
 check-small tag check.OutOfRange h = (omega arith, omega arith)
 
-row-small : (given : Given) (number : ℕ → ℕ) (tag : ℕ) (needed : Bool) (form : Form) (vs : Pieces) → tag < 1000 → SmallIf (rowFault given number tag needed form vs)
-unfolding rowFault
-row-small given number tag needed form [] h = of-cond SmallIf needed (λ _. (omega arith, omega arith)) (λ _. tt)
-row-small given number tag needed form (v ∷ []) h = check-small tag (valueCheck given number form v) h
-row-small given number tag needed form (v ∷ w ∷ vs) h = (omega arith, omega arith)
+tag-small : (given : Given) (look : Look) (tag : ℕ) (needed : Bool) (form : Form) → tag < 1000 → SmallIf (tagFault given look tag needed form)
+unfolding tagFault
+tag-small given look tag needed form h =
+    of-cond SmallIf (eqb (look .count tag) 0) (λ _. of-cond SmallIf needed (λ _. (omega arith, omega arith)) (λ _. tt))
+    (λ _. of-cond SmallIf (eqb (look .count tag) 1) (λ _. check-small tag (valueCheck given look form (look .text tag)) h) (λ _. (omega arith, omega arith)))
 
-row-at-small : (given : Given) (look : Look) (r : Row) → tagIn r < 1000 → SmallIf (rowFaultAt given look r)
-row-at-small given look (row.Needs tag form place) h =
-    of-cond SmallIf (applies given place) (λ _. row-small given (look .number) tag true form (look .values tag) h) (λ _. tt)
-row-at-small given look (row.May tag form place) h =
-    of-cond SmallIf (applies given place) (λ _. row-small given (look .number) tag false form (look .values tag) h) (λ _. tt)
+row-small : (given : Given) (look : Look) (r : Row) → tagIn r < 1000 → SmallIf (rowFault given look r)
+row-small given look (row.Needs tag form place) h =
+    of-cond SmallIf (applies given place) (λ _. tag-small given look tag true form h) (λ _. tt)
+row-small given look (row.May tag form place) h =
+    of-cond SmallIf (applies given place) (λ _. tag-small given look tag false form h) (λ _. tt)
 
 walk-small : (given : Given) (look : Look) (rows : List Row) → smallRows rows ≡ true → SmallIf (walk given look rows)
 unfolding walk
 walk-small given look [] h = tt
 walk-small given look (r ∷ rows) h =
     let p = and-both (ltb (tagIn r) 1000) (smallRows rows) h in
-    or-small (rowFaultAt given look r) (walk given look rows) (row-at-small given look r (ltb-true (tagIn r) 1000 (p .0))) (walk-small given look rows (p .1))
+    or-small (rowFault given look r) (walk given look rows) (row-small given look r (ltb-true (tagIn r) 1000 (p .0))) (walk-small given look rows (p .1))
 
 pub fault-small : (setup : Setup) (phase : Phase) (o : ℕ) (ps : Pieces) → SmallIf (faultIn setup phase o ps)
 unfolding faultIn firstFault
@@ -296,4 +297,4 @@ fault-small setup phase o ps =
     let k : Kind = kindIn setup ps in
     let x = kind-small setup phase k in
     or-small (scanFault (scanOf ps)) _ (scanned-small (scanOf ps) (scan-small ps))
-    (or-small (kindFault phase k) _ (x .0) (walk-small (givenOf phase o) (atPieces ps) (tableOf setup k) (x .1)))
+    (or-small (kindFault phase k) _ (x .0) (walk-small (givenOf phase o) (lookOf ps) (tableOf setup k) (x .1)))

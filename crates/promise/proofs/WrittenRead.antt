@@ -15,6 +15,7 @@ use Rattle.frame.specs.Finding.{foundIn, bodyIn}
 use Rattle.frame.specs.declared.Found.{Found}
 use Rattle.frame.specs.declared.Found.the-variants as found
 use Rattle.field.specs.Pieces.{Pieces, piecesOf, textAt, isThat}
+use Rattle.field.specs.Look.{lookOf}
 use Rattle.field.specs.Written.{valuesWith}
 use Rattle.answer.specs.declared.Setup.{Setup}
 use Rattle.answer.specs.declared.Fault.{Fault}
@@ -36,7 +37,7 @@ use Rattle.book.specs.declared.Placed.the-variants as placed
 use Rattle.note.specs.Notes.{Note, Leaves, Books, Marks, Clears, Whole}
 use Rattle.note.proofs.Reading.{Fits, note-length, reads-back, reads-part}
 use Rattle.note.proofs.Keeping.{Sound}
-use Rattle.report.specs.Report.{Report, rule14, rule151, rule150, rule39, unlessKept, ruleFault, afterRules, reportedOf, reportIn, reportedIn, slotIn}
+use Rattle.report.specs.Report.{Report, rule14, rule151, rule150, rule39, unlessKept, ruleFault, isAside, afterRules, reportedOf, reportIn, reportedIn, slotIn}
 use Rattle.report.specs.declared.Reported.{Reported}
 use Rattle.report.specs.declared.Reported.the-variants as reported
 use Rattle.queue.specs.Queue.{nextOffer}
@@ -179,9 +180,11 @@ kept-small tag kept h = of-cond SmallIf kept (λ _. tt) (λ _. (omega arith, ome
 rule-small : (r : Report) → SmallIf (ruleFault r)
 unfolding ruleFault
 rule-small r =
-    or-small (unlessKept 14 (rule14 r)) _ (kept-small 14 (rule14 r) (omega arith))
-    (or-small (unlessKept 151 (rule151 r)) _ (kept-small 151 (rule151 r) (omega arith))
-    (or-small (unlessKept 150 (rule150 r)) _ (kept-small 150 (rule150 r) (omega arith)) (kept-small 39 (rule39 r) (omega arith))))
+    let n = r .sums in
+    or-small (unlessKept 14 (rule14 n)) _ (kept-small 14 (rule14 n) (omega arith))
+    (or-small (unlessKept 151 (rule151 n)) _ (kept-small 151 (rule151 n) (omega arith))
+    (or-small (unlessKept 150 (rule150 n (r .execType))) _ (kept-small 150 (rule150 n (r .execType)) (omega arith))
+    (kept-small 39 (rule39 (r .execType) (r .status)) (omega arith))))
 
 abbrev SmallReported : Reported → Type 0
 SmallReported (reported.Faulty f) = SmallFault f
@@ -194,7 +197,7 @@ rules-small aside none h = of-cond SmallReported aside (λ _. tt) (λ _. tt)
 
 reported-small : (ps : Pieces) → SmallReported (reportedIn ps)
 unfolding reportedOf
-reported-small ps = rules-small (reportIn ps .aside) (ruleFault (reportIn ps)) (rule-small (reportIn ps))
+reported-small ps = rules-small (isAside (lookOf ps)) (ruleFault (reportIn ps)) (rule-small (reportIn ps))
 
 -- ---- the message call
 
@@ -242,13 +245,13 @@ module _ (setup : Setup) (st : State) (time s : List ℕ) (ids : Agreed setup) (
       placed-replied placed.Already h = said-replied (passed outcome.Already (sessionOf st)) (passed-speaks ps clear (sessionOf st) outcome.Already refl)
       placed-replied (placed.Clash f) h = said-replied (rejected (sessionOf st) n f) (rejected-speaks ps clear (sessionOf st) n f n-small h)
 
-      ruled-replied : (r : Reported) → SmallReported r → Does (ruled st ps n r)
+      ruled-replied : (r : Reported) → SmallReported r → Does (ruled st (lookOf ps) n r)
       unfolding ruled
       ruled-replied (reported.Faulty f) h = said-replied (rejected (sessionOf st) n f) (rejected-speaks ps clear (sessionOf st) n f n-small h)
       ruled-replied reported.Aside h = said-replied (passed outcome.Aside (sessionOf st)) (passed-speaks ps clear (sessionOf st) outcome.Aside refl)
       ruled-replied reported.Fill h = placed-replied (place (st .kept .slots) (slotIn ps)) (place-small (st .kept .slots) (slotIn ps))
 
-    judged-replied : (v : Verdict) → judge setup (sessionOf st) ps ≡ v → Does (judgedBy st ps v)
+    judged-replied : (v : Verdict) → judge setup (sessionOf st) ps ≡ v → Does (judgedBy st (lookOf ps) v)
     unfolding judgedBy
     judged-replied (Settled j) e = said-replied j (settled-speaks setup (sessionOf st) s len framed-so e-small o-small j e)
     judged-replied (verdict.Report n) e =

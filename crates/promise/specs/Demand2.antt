@@ -22,7 +22,7 @@ use Rattle.book.specs.Place.{place, ordersWith, hasRoom, inStep}
 use Rattle.book.specs.declared.Placed.the-variants as placed
 use Rattle.note.specs.Notes.{Books}
 use Rattle.report.specs.Report.{reportIn, slotIn, ruleFault}
-use Rattle.session.specs.Judging.{seqGiven, idsGiven}
+use Rattle.session.specs.Reading.{seqGiven, idsGiven}
 use Rattle.tally.specs.Tally.{tallied}
 use Rattle.tally.specs.declared.Tally.{Tally}
 use Rattle.receiver.specs.State.{State}
