@@ -26,7 +26,7 @@ uint64_t bench_message(const uint8_t *ours, size_t n, const uint8_t *theirs, siz
 size_t bench_restart(uint8_t *book, const uint8_t *notes, size_t notes_len);
 size_t bench_listing(const uint8_t *notes, size_t notes_len, uint8_t *book, uint8_t *out, size_t out_len);
 size_t bench_find(const uint8_t *bytes, size_t bytes_len);
-uint8_t bench_index(const uint8_t *body, size_t body_len, size_t *start, size_t *len, uint8_t *count);
+uint8_t bench_index(const uint8_t *body, size_t body_len, size_t *index);
 uint8_t bench_judge(const uint8_t *ours, size_t n, const uint8_t *theirs, size_t k, uint32_t e, const uint8_t *body, size_t body_len);
 uint8_t bench_admit(const uint8_t *book, size_t count, uint32_t orders, const uint8_t *slot, size_t slot_len);
 }
@@ -322,13 +322,12 @@ struct Bench {
     void stages() {
         const string m = report(FILLS, FILLS - 1, ORDERS - 1), body = m.substr(16, m.size() - 23);
         const vector<uint8_t> slot(full.book.end() - SLOT, full.book.end());
-        size_t start[TAGS], len[TAGS];
-        uint8_t count[TAGS];
+        size_t cells[3 * TAGS];
         auto find = [&]() { return bench_find(bytes_of(m), m.size()); };
-        auto index = [&]() { return bench_index(bytes_of(body), body.size(), start, len, count); };
+        auto index = [&]() { return bench_index(bytes_of(body), body.size(), cells); };
         auto judge = [&]() { return bench_judge(OURS, 4, THEIRS, 4, FILLS, bytes_of(body), body.size()); };
         auto admit = [&](int fills) { return bench_admit(full.book.data(), fills, ORDERS - 1, slot.data(), slot.size()); };
-        if (find() != m.size() || index() != 0 || body.substr(start[14], len[14]) != identifier("SPHR20261113", FILLS - 1) || count[14] != 1 ||
+        if (find() != m.size() || index() != 0 || body.substr(cells[14], cells[TAGS + 14]) != identifier("SPHR20261113", FILLS - 1) || cells[2 * TAGS + 14] != 1 ||
             judge() != TO_BE_BOOKED || admit(FILLS - 1) != NEW)
             give_up("a stage of the report's call");
         vector<Work> works = {

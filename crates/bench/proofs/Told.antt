@@ -3,14 +3,15 @@ use Prim.Native.Nat.{ℕ}
 use mathlib.Core.Path.{_≡_, sym, ap, _∙_}
 use mathlib.Core.List.{List}
 use Rattle.answer.specs.declared.Setup.{Setup}
-use Rattle.field.specs.Pieces.{piecesOf}
-use Rattle.field.specs.Index.{Index, indexFrom, indexOf}
+use Rattle.field.specs.Pieces.{piecesOf, scanOf}
+use Rattle.field.specs.Index.{indexOf}
+use Rattle.field.specs.Look.{lookIn}
+use Rattle.field.proofs.Looks.{look-by}
 use Rattle.field.specs.declared.Scan.{Scan}
-use Rattle.session.specs.Judging.{Facts, judgedBy, judge}
-use Rattle.session.specs.Indexed.{factsBy}
+use Rattle.session.specs.Reading.{Facts, factsOf, factsIn}
+use Rattle.session.specs.Judging.{judgedBy, judge}
 use Rattle.session.specs.declared.Session.{Session}
 use Rattle.session.specs.declared.Verdict.{Verdict}
-use Rattle.session.proofs.IndexLaws.{judge-by}
 use Rattle.tally.specs.declared.Tally.{Tally}
 use Rattle.receiver.specs.State.{State}
 use Rattle.receiver.specs.Receiver.{What, Lent, does, call}
@@ -30,18 +31,16 @@ timed-call setup st b t w k e = record {
 }
 
 -- a session judges a body by its index as it judges the pieces
-pub judged-body : {setup setup′ : Setup} {s s′ : Session} (body : List ℕ) {ix : Index} {fs : Facts} {v : Verdict} → setup ≡ setup′ → s ≡ s′ → ix ≡ indexOf body
-    → fs ≡ factsBy setup s body ix → v ≡ judgedBy s fs → v ≡ judge setup′ s′ (piecesOf body)
-judged-body {setup} {setup′} {s} {s′} body {ix} p q own read e =
-    e ∙ ap (judgedBy s) read ∙ judge-by setup s body ix own ∙ ap (λ (x : Setup). judge x s (piecesOf body)) p
+pub judged-body : {setup setup′ : Setup} {s s′ : Session} (body : List ℕ) {scan : Scan} {index : List ℕ} {fs : Facts} {v : Verdict} → setup ≡ setup′ → s ≡ s′
+    → (scan ≡ scanOf (piecesOf body)) × (index ≡ indexOf body) → fs ≡ factsOf setup s scan (lookIn body index) → v ≡ judgedBy s fs → v ≡ judge setup′ s′ (piecesOf body)
+unfolding judge factsIn
+judged-body {setup} {setup′} {s} {s′} body {index = index} p q own read e =
+    e
+    ∙ ap (judgedBy s) (read ∙ ap (λ (x : Scan). factsOf setup s x (lookIn body index)) (own .0) ∙ ap (factsOf setup s (scanOf (piecesOf body))) (look-by body (own .1)))
+    ∙ ap (λ (x : Setup). judge x s (piecesOf body)) p
     ∙ ap (λ (x : Session). judge setup′ x (piecesOf body)) q
 
 -- what was indexed, by its fault
-pub indexed-body : (body : List ℕ) (scan : Scan) {q : Scan} {start len count : List ℕ} → q ≡ scan → indexFrom q start len count ≡ indexOf body
-    → Indexed body (scanNumber scan) start len count
-indexed-body body scan e f = record {
-  fault = ap scanNumber (sym e ∙ ap (λ (x : Index). x .scan) f);
-  starts = ap (λ (x : Index). x .start) f;
-  lens = ap (λ (x : Index). x .len) f;
-  counts = ap (λ (x : Index). x .count) f;
-}
+pub indexed-body : (body : List ℕ) (scan : Scan) {q : Scan} {index : List ℕ} → q ≡ scan → (q ≡ scanOf (piecesOf body)) × (index ≡ indexOf body)
+    → Indexed body (scanNumber scan) index
+indexed-body body scan e f = record { fault = ap scanNumber (sym e ∙ f .0); listed = f .1 }

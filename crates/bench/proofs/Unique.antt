@@ -29,10 +29,9 @@ listing-one notes book out p q = write-listing-one notes book out p q
 pub find-one : (s : List ℕ) {r r′ : ℕ} → r ≡ lengthOf (foundIn s) → r′ ≡ lengthOf (foundIn s) → r ≡ r′
 find-one s p q = p ∙ sym q
 
--- the number and the three lists
-pub index-one : (body : List ℕ) {r r′ : ℕ} {s s′ n n′ c c′ : List ℕ} → Indexed body r s n c → Indexed body r′ s′ n′ c′
-    → (r ≡ r′) × (s ≡ s′) × (n ≡ n′) × (c ≡ c′)
-index-one body p q = (p .fault ∙ sym (q .fault), p .starts ∙ sym (q .starts), p .lens ∙ sym (q .lens), p .counts ∙ sym (q .counts))
+-- the number and the index
+pub index-one : (body : List ℕ) {r r′ : ℕ} {x x′ : List ℕ} → Indexed body r x → Indexed body r′ x′ → (r ≡ r′) × (x ≡ x′)
+index-one body p q = (p .fault ∙ sym (q .fault), p .listed ∙ sym (q .listed))
 
 pub judge-one : (v : Verdict) {r r′ : ℕ} → r ≡ verdictNumber v → r′ ≡ verdictNumber v → r ≡ r′
 judge-one v p q = p ∙ sym q

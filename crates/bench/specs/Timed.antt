@@ -8,6 +8,7 @@ use Rattle.answer.specs.declared.Setup.{Setup}
 use Rattle.answer.specs.declared.Phase.the-variants.{In}
 use Rattle.answer.specs.declared.Outcome.{Outcome}
 use Rattle.answer.specs.declared.Outcome.the-variants as outcome
+use Rattle.field.specs.Pieces.{piecesOf, scanOf}
 use Rattle.field.specs.Index.{indexOf}
 use Rattle.field.specs.declared.Scan.{Scan}
 use Rattle.field.specs.declared.Scan.the-variants.{Sound, Malformed, Empty}
@@ -107,12 +108,10 @@ scanNumber Sound = 0
 scanNumber Malformed = 1
 scanNumber (Empty tag) = 2
 
--- the index of a body: its fault as a number, and its lists as they are lent
-pub record Indexed (body : List ℕ) (r : ℕ) (start len count : List ℕ) : Type 0 where
-  pub fault : r ≡ scanNumber (indexOf body .scan)
-  pub starts : start ≡ indexOf body .start
-  pub lens : len ≡ indexOf body .len
-  pub counts : count ≡ indexOf body .count
+-- the index of a body: its fault as a number, and the list as it is lent
+pub record Indexed (body : List ℕ) (r : ℕ) (index : List ℕ) : Type 0 where
+  pub fault : r ≡ scanNumber (scanOf (piecesOf body))
+  pub listed : index ≡ indexOf body
 
 -- what the session says of a message: the number of what became of it, or 14 where it is a report about which the book is to be asked
 abbrev pub verdictNumber : Verdict → ℕ

@@ -5,8 +5,9 @@ use answer::Outcome;
 use answer::Phase;
 use answer::Setup;
 use book::Admitted;
+use field::Index;
+use field::NO_INDEX;
 use field::Scan;
-use field::TAGS;
 use fill::BOOK;
 use frame::Found;
 use queue::Marks;
@@ -177,15 +178,10 @@ pub extern "C" fn bench_find(bytes: &[u8]) -> usize
 
 // The index of a body. It answers how its first fault is numbered: 0 none, 1 a piece that is no field, 2 a field without a value.
 #[no_mangle]
-pub extern "C" fn bench_index(
-    body: &[u8],
-    start: &mut [usize; TAGS],
-    len: &mut [usize; TAGS],
-    count: &mut [u8; TAGS],
-) -> u8
-    ensures { λ r. ⌜ Indexed (now (body .entry)) r (now (start .exit)) (now (len .exit)) (now (count .exit)) ⌝ }
+pub extern "C" fn bench_index(body: &[u8], index: &mut Index) -> u8
+    ensures { λ r. ⌜ Indexed (now (body .entry)) r (now (index .exit)) ⌝ }
 {
-    match field::index_into(body, start, len, count) {
+    match field::index_into(body, index) {
         Scan::Sound => 0,
         Scan::Malformed => 1,
         Scan::Empty(_) => 2,
@@ -207,11 +203,9 @@ pub extern "C" fn bench_judge(
     let setup = agreed(*ours, n, *theirs, k);
     let st = online(e, 0, 0);
     let session = st.session;
-    let mut starts = [0usize; TAGS];
-    let mut lens = [0usize; TAGS];
-    let mut counts = [0u8; TAGS];
-    let scan = field::index_into(body, &mut starts, &mut lens, &mut counts);
-    let found = session::findings_of(setup, session, body, scan, &starts, &lens, &counts);
+    let mut index = NO_INDEX;
+    let scan = field::index_into(body, &mut index);
+    let found = session::findings_of(setup, session, body, scan, &index);
     match session.judge(found) {
         Verdict::Settled(j) => {
             let outcome = j.outcome;

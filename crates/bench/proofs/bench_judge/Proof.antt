@@ -8,10 +8,17 @@ use Rattle.bench.proofs.bench_judge.Statement.{statement}
 use Rattle.bench.proofs.bench_judge.Tie as tie
 
 returns : tie.Need-returns
-returns c = c .outcome-number .ensures ∙ ap verdictNumber (judged-body (now (c .before .before .before .before .before .before .before .before .before .before .before .before .before .before .before .before .before .before .before .args .body)) (c .before .before .before .before .before .before .before .before .before .before .before .before .before .before .before .agreed .ensures) (ap (λ (x : Stored). x .session) (c .before .before .before .before .before .before .before .before .before .before .before .before .before .before .online .ensures)) (c .before .before .before .before .before .before .before .before .before .index-into .ensures) (c .before .before .before .before .before .findings-of .ensures) (sym (c .before .before .j .given .1) ∙ c .before .before .before .before .judge .ensures))
+returns c =
+    let f = c .before .before .before .before .before in
+    let o = f .before .before .before .before .before in
+    c .outcome-number .ensures
+    ∙ ap verdictNumber (judged-body (now (o .before .before .before .before .before .args .body)) (o .before .agreed .ensures) (ap (λ (x : Stored). x .session) (o .online .ensures)) (f .before .before .index-into .ensures) (f .findings-of .ensures) (sym (c .before .before .j .given .1) ∙ c .before .before .before .before .judge .ensures))
 
 returns-2 : tie.Need-returns-2
-returns-2 c = ap verdictNumber (judged-body (now (c .before .before .before .before .before .before .before .before .before .before .before .before .before .before .before .before .before .args .body)) (c .before .before .before .before .before .before .before .before .before .before .before .before .before .agreed .ensures) (ap (λ (x : Stored). x .session) (c .before .before .before .before .before .before .before .before .before .before .before .before .online .ensures)) (c .before .before .before .before .before .before .before .index-into .ensures) (c .before .before .before .findings-of .ensures) (sym (c .enum-told .given .1) ∙ c .before .before .judge .ensures))
+returns-2 c =
+    let f = c .before .before .before in
+    let o = f .before .before .before .before .before in
+    ap verdictNumber (judged-body (now (o .before .before .before .before .before .args .body)) (o .before .agreed .ensures) (ap (λ (x : Stored). x .session) (o .online .ensures)) (f .before .before .index-into .ensures) (f .findings-of .ensures) (sym (c .enum-told .given .1) ∙ c .before .before .judge .ensures))
 
 pub bench-judge-spec : {M : Type 1} → statement M
 bench-judge-spec =
