@@ -38,7 +38,7 @@ agreed ours n theirs k = record { ours = record { bytes = ours; len = n }; their
 abbrev pub online : ℕ → ℕ → ℕ → Stored
 online e fills orders = record {
   session = record { phase = In; e = e; o = 1; asked = 0 };
-  marks = record { fills = fills; orders = orders; acked = 0; offered = 0 };
+  marks = record { last = fills; fills = fills; orders = orders; acked = 0; offered = 0 };
 }
 
 -- what became of a framed message: the place of its outcome among all of them, from 1

@@ -5,10 +5,10 @@ use answer::Outcome;
 use answer::Phase;
 use answer::Setup;
 use book::Admitted;
+use book::BOOK;
 use field::Index;
 use field::NO_INDEX;
 use field::Scan;
-use fill::BOOK;
 use frame::Found;
 use queue::Marks;
 use receiver::Answer;
@@ -103,6 +103,7 @@ fn online(e: u32, fills: u32, orders: u32) -> State
             asked: 0,
         },
         marks: Marks {
+            last: fills,
             fills,
             orders,
             acked: 0,

@@ -1,6 +1,6 @@
 // The message call with the tally "lent by the caller and brought up to date": the receiver's call takes it by value, and what that hands back is stored.
 use answer::Setup;
-use fill::BOOK;
+use book::BOOK;
 use receiver::State;
 use receiver::Told;
 use tally::Tally;

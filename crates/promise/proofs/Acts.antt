@@ -13,6 +13,7 @@ use lib.Dec.{leb, ltb, eqb}
 use borrow.Author.Tests.{ltb-false, leb-false, eqb-true, eqb-false, eq-eqb, lt-ltb, le-leb}
 use Rattle.octet.specs.Maybe.{orElse, first, isNone}
 use Rattle.octet.proofs.Cases.{of-cond, contrary, and-both, and-fails, or-left, or-right, bool-case}
+use Rattle.answer.specs.Numbers.{nineDigits, lastToSend}
 use Rattle.answer.specs.declared.Setup.{Setup}
 use Rattle.answer.specs.declared.Fault.{Fault}
 use Rattle.answer.specs.declared.Outcome.{Outcome}
@@ -28,8 +29,8 @@ use Rattle.fill.specs.Slot.{Slot, lineOf, slotLawful, fillMark}
 use Rattle.book.specs.Place.{place, isNew, hasRoom}
 use Rattle.book.specs.declared.Placed.{Placed}
 use Rattle.book.specs.declared.Placed.the-variants as placed
-use Rattle.note.specs.Notes.{Leaves, Marks, Clears}
-use Rattle.note.specs.Kept.{Kept, empty, top, bookable, lawful, after}
+use Rattle.note.specs.Notes.{Raises, Acks, Clears}
+use Rattle.note.specs.Kept.{Kept, empty, bookable, lawful, after}
 use Rattle.report.specs.Report.{reportIn, reportedIn, slotIn, ruleFault}
 use Rattle.report.specs.declared.Reported.{Reported}
 use Rattle.report.specs.declared.Reported.the-variants as reported
@@ -47,7 +48,7 @@ use Rattle.session.specs.declared.Verdict.the-variants.{Settled, Report}
 use Rattle.restart.specs.Restart.{Outcome as Restarting, Again, Unlawful, restart}
 use Rattle.receiver.specs.State.{State, woken, Did, quiet, noting, sessionOf, withSession, keeping, offering, noteOfChange}
 use Rattle.receiver.specs.Calls.{owned, lost, settled, bookingNote, booked, Deed, withRoom, placedFill, ruled, judgedBy, deedOf, carriedOut, framed, foundTo, message, offerOf, offer, beginAgain, acknowledge, isEmpty, newDay, restarted}
-use Rattle.receiver.specs.Receiver.{What, Own-call, Line-lost, Message, Offer, Begin-again, Acknowledge, New-day, Restart, Lent, refuse, shortReply, badGiven, lastNumber, writing, refusalOf, unrefused, unless-refused, does}
+use Rattle.receiver.specs.Receiver.{What, Own-call, Line-lost, Message, Offer, Begin-again, Acknowledge, New-day, Restart, Lent, refuse, shortReply, badGiven, writing, refusalOf, unrefused, unless-refused, does}
 use Rattle.receiver.specs.declared.Answer.{Answer}
 use Rattle.receiver.specs.declared.Answer.the-variants.{Done, Refused, More, Garbled, Framed, None, Acked, Already}
 use Rattle.promise.specs.Sort.{Became, becameOf, tellsOf}
@@ -129,20 +130,20 @@ acts-quiet st w a e g u k = record {
 
 -- ---- the session's calls
 
-kept-path : (q : Kept) (e o : ℕ) → e ≡ q .e → o ≡ q .o → record { e = e; o = o; slots = q .slots; orders = q .orders; acked = q .acked } ≡ q
-kept-path q e o a b = λ i. record { e = a i; o = b i; slots = q .slots; orders = q .orders; acked = q .acked }
+kept-path : (q : Kept) (e o : ℕ) → e ≡ q .e → o ≡ q .o → record { e = e; o = o; slots = q .slots; fills = q .fills; orders = q .orders; acked = q .acked } ≡ q
+kept-path q e o a b = λ i. record { e = a i; o = b i; slots = q .slots; fills = q .fills; orders = q .orders; acked = q .acked }
 
-leaves-law : (q : Kept) (e o : ℕ) → q .e ≤ e → e ≤ top → q .o ≤ o → o ≤ top → eqb (q .e) e && eqb (q .o) o ≡ false → lawful q (Leaves e o) ≡ true
+raises-law : (q : Kept) (e o : ℕ) → q .e ≤ e → e ≤ nineDigits → q .o ≤ o → o ≤ nineDigits → eqb (q .e) e && eqb (q .o) o ≡ false → lawful q (Raises e o) ≡ true
 unfolding lawful
-leaves-law q e o a b c d h =
+raises-law q e o a b c d h =
     let up : ltb (q .e) e || ltb (q .o) o ≡ true =
     ⊎-elim
     (λ x. or-left (ltb (q .e) e) (ltb (q .o) o) (lt-ltb (q .e) e (let z = eqb-false (q .e) e x in omega arith)))
     (λ x. or-right (ltb (q .e) e) (ltb (q .o) o) (lt-ltb (q .o) o (let z = eqb-false (q .o) o x in omega arith)))
     (and-fails (eqb (q .e) e) (eqb (q .o) o) h) in
-    rw (up, le-leb (q .e) e a, le-leb (q .o) o c, le-leb e top b, le-leb o top d)
+    rw (up, le-leb (q .e) e a, le-leb (q .o) o c, le-leb e nineDigits b, le-leb o nineDigits d)
 
-change-says : (st : State) (w : What) (t : Session) → ((e o : ℕ) → Says w (Leaves e o)) → Onward (sessionOf st) t
+change-says : (st : State) (w : What) (t : Session) → ((e o : ℕ) → Says w (Raises e o)) → Onward (sessionOf st) t
     → NoteSays (st .kept) w (withSession st t .kept) (noteOfChange (sessionOf st) t)
 unfolding noteOfChange after
 change-says st w t says f =
@@ -150,13 +151,13 @@ change-says st w t says f =
     (λ h. let p = and-both (eqb (st .kept .e) (t .e)) (eqb (st .kept .o) (t .o)) h in
     kept-path (st .kept) (t .e) (t .o) (sym (eqb-true (st .kept .e) (t .e) (p .0))) (sym (eqb-true (st .kept .o) (t .o) (p .1))))
     (λ h. record {
-      law = leaves-law (st .kept) (t .e) (t .o) (f .e-up) (f .e-most) (f .o-up) (f .o-most) h;
+      law = raises-law (st .kept) (t .e) (t .o) (f .e-up) (f .e-most) (f .o-up) (f .o-most) h;
       slotted = tt;
       to = refl;
       says = says (t .e) (t .o);
     })
 
-acts-session : (st : State) (w : What) (a : Answer) (t : Session) (reply : List ℕ) → ((e o : ℕ) → Says w (Leaves e o)) → Onward (sessionOf st) t
+acts-session : (st : State) (w : What) (a : Answer) (t : Session) (reply : List ℕ) → ((e o : ℕ) → Says w (Raises e o)) → Onward (sessionOf st) t
     → anew w a ≡ false → gave a [] ≡ [] → numberTold a ≡ none → isAcked a ≡ false
     → Acts st w (record { answer = a; next = withSession st t; reply = reply; note = noteOfChange (sessionOf st) t; line = [] })
 acts-session st w a t reply says f e g u k =
@@ -168,7 +169,7 @@ acts-session st w a t reply says f e g u k =
       marks = λ h m. stands-same st w d h refl refl refl e g m;
     }
 
-acts-owned : (setup : Setup) (st : State) (time : List ℕ) (own : Own) → st .kept .e ≤ top → st .kept .o ≤ lastNumber → Acts st (Own-call own time) (owned setup st time own)
+acts-owned : (setup : Setup) (st : State) (time : List ℕ) (own : Own) → st .kept .e ≤ nineDigits → st .kept .o ≤ lastToSend → Acts st (Own-call own time) (owned setup st time own)
 unfolding owned
 acts-owned setup st time own a b =
     acts-session st (Own-call own time) Done (ownCall own (sessionOf st)) _ (λ e o. record { lent = refl; acks = refl; clears = refl })
@@ -189,27 +190,27 @@ acts-lost st = record {
 some-same : (a b : ℕ) → some a ≡ some b → a ≡ b
 some-same a b h = cc
 
-module _ (setup : Setup) (st : State) (time s : List ℕ) (safe : Safe (st .kept)) (o-most : st .kept .o ≤ lastNumber) where
+module _ (setup : Setup) (st : State) (time s : List ℕ) (safe : Safe (st .kept)) (o-most : st .kept .o ≤ lastToSend) where
   acts-settled : (len : ℕ) (ps : Pieces) (j : Judged) → Onward (sessionOf st) (j .next) → becameOf (j .outcome) .booked ≡ none
       → Acts st (Message time s) (settled setup st time len ps j)
   unfolding settled
   acts-settled len ps j f u = acts-session st (Message time s) (Framed len (j .outcome)) (j .next) _ (λ e o. record { lent = refl; acks = refl; clears = refl }) f refl refl u refl
 
-  acts-passed : (len : ℕ) (ps : Pieces) (o : Outcome) → st .kept .e < top → becameOf o .booked ≡ none
+  acts-passed : (len : ℕ) (ps : Pieces) (o : Outcome) → st .kept .e < nineDigits → becameOf o .booked ≡ none
       → Acts st (Message time s) (settled setup st time len ps (passed o (sessionOf st)))
   acts-passed len ps o l u = acts-settled len ps (passed o (sessionOf st)) (passed-numbers (sessionOf st) o-most (omega arith) o .onward) u
 
-  acts-rejected : (len : ℕ) (ps : Pieces) (n : ℕ) (f : Fault) → st .kept .e < top → Acts st (Message time s) (settled setup st time len ps (rejected (sessionOf st) n f))
+  acts-rejected : (len : ℕ) (ps : Pieces) (n : ℕ) (f : Fault) → st .kept .e < nineDigits → Acts st (Message time s) (settled setup st time len ps (rejected (sessionOf st) n f))
   acts-rejected len ps n f l = acts-settled len ps (rejected (sessionOf st) n f) (rejected-numbers (sessionOf st) o-most (omega arith) n f .onward) refl
 
-  books-law : (f : Slot) → st .kept .e < top → slotLawful f ≡ true → place (st .kept .slots) f ≡ placed.New → hasRoom (st .kept .slots) (st .kept .orders) f ≡ true
+  books-law : (f : Slot) → st .kept .e < nineDigits → slotLawful f ≡ true → place (st .kept .slots) f ≡ placed.New → hasRoom (st .kept .slots) (st .kept .fills) (st .kept .orders) f ≡ true
       → lawful (st .kept) (bookingNote st f) ≡ true
   unfolding lawful bookable
   books-law f l law new room =
       let e : ℕ = st .kept .e + 1 in
-      rw (eq-eqb e e refl, le-leb e top (omega arith), eq-eqb (st .kept .o) (st .kept .o) refl, law, ap isNew new, room)
+      rw (eq-eqb e e refl, le-leb e nineDigits (omega arith), eq-eqb (st .kept .o) (st .kept .o) refl, law, ap isNew new, room)
 
-  acts-booked : (len : ℕ) (f : Slot) → st .kept .e < top → Lawful f → place (st .kept .slots) f ≡ placed.New → hasRoom (st .kept .slots) (st .kept .orders) f ≡ true
+  acts-booked : (len : ℕ) (f : Slot) → st .kept .e < nineDigits → Lawful f → place (st .kept .slots) f ≡ placed.New → hasRoom (st .kept .slots) (st .kept .fills) (st .kept .orders) f ≡ true
       → Acts st (Message time s) (booked st len f)
   unfolding booked after
   acts-booked len f l law new room =
@@ -230,11 +231,11 @@ module _ (setup : Setup) (st : State) (time s : List ℕ) (safe : Safe (st .kept
         marks = λ h m. stands-more st (Message time s) (booked st len f) h (f ∷ []) refl refl refl refl refl m;
       }
 
-  acts-placed : (len : ℕ) (ps : Pieces) (n : ℕ) (p : Placed) → st .kept .e < top → Lawful (slotIn ps) → place (st .kept .slots) (slotIn ps) ≡ p
+  acts-placed : (len : ℕ) (ps : Pieces) (n : ℕ) (p : Placed) → st .kept .e < nineDigits → Lawful (slotIn ps) → place (st .kept .slots) (slotIn ps) ≡ p
       → Acts st (Message time s) (carriedOut setup st time len ps (placedFill st n (slotIn ps) p))
   unfolding carriedOut placedFill withRoom
   acts-placed len ps n placed.New l law e =
-      of-cond (λ (d : Deed). Acts st (Message time s) (carriedOut setup st time len ps d)) (hasRoom (st .kept .slots) (st .kept .orders) (slotIn ps))
+      of-cond (λ (d : Deed). Acts st (Message time s) (carriedOut setup st time len ps d)) (hasRoom (st .kept .slots) (st .kept .fills) (st .kept .orders) (slotIn ps))
       (λ room. acts-booked len (slotIn ps) l law e room)
       (λ _. acts-quiet st (Message time s) (Refused refusal.NoRoom) refl refl refl refl)
   acts-placed len ps n placed.Already l law e =
@@ -242,7 +243,7 @@ module _ (setup : Setup) (st : State) (time s : List ℕ) (safe : Safe (st .kept
   acts-placed len ps n (placed.Clash f) l law e =
       acts-rejected len ps n f l
 
-  acts-ruled : (len : ℕ) (ps : Pieces) (n : ℕ) (r : Reported) → reportedIn ps ≡ r → st .kept .e < top
+  acts-ruled : (len : ℕ) (ps : Pieces) (n : ℕ) (r : Reported) → reportedIn ps ≡ r → st .kept .e < nineDigits
       → (ruleFault (reportIn ps) ≡ none → Lawful (slotIn ps)) → Acts st (Message time s) (carriedOut setup st time len ps (ruled st (lookOf ps) n r))
   unfolding carriedOut ruled
   acts-ruled len ps n (reported.Faulty f) e l law =
@@ -264,7 +265,7 @@ module _ (setup : Setup) (st : State) (time s : List ℕ) (safe : Safe (st .kept
       let ps : Pieces = piecesOf (bodyIn len s) in
       let t = judge-report setup (sessionOf st) ps n e in
       let small = t .most in
-      let low : st .kept .e < top = let z : n ≡ st .kept .e = t .number in omega arith in
+      let low : st .kept .e < nineDigits = let z : n ≡ st .kept .e = t .number in omega arith in
       acts-ruled len ps n (reportedIn ps) refl low (report-lawful setup (st .phase) (st .kept .o) ps (t .fault) (t .kind))
 
   acts-found : (f : Found) → foundIn s ≡ f → Acts st (Message time s) (foundTo setup st time s f)
@@ -331,7 +332,7 @@ acts-begin st mk = record {
 }
 
 acts-acked : (st : State) (n : ℕ) → n ≤ st .offered → st .kept .acked < n → st .offered ≤ length (st .kept .slots)
-    → Acts st (Acknowledge n) (noting Acked (Marks n) (keeping st (after (st .kept) (Marks n))))
+    → Acts st (Acknowledge n) (noting Acked (Acks n) (keeping st (after (st .kept) (Acks n))))
 unfolding after lawful
 acts-acked st n h g high = record {
   notes = record {
@@ -340,7 +341,7 @@ acts-acked st n h g high = record {
     to = refl;
     says = record { lent = refl; acks = refl; clears = refl };
   };
-  tells = tells-none st (noting Acked (Marks n) (keeping st (after (st .kept) (Marks n)))) refl refl;
+  tells = tells-none st (noting Acked (Acks n) (keeping st (after (st .kept) (Acks n)))) refl refl;
   acks = λ h. refl;
   marks = λ x m. record { low = h; high = m .high; base = omega (arith, m .base); given = append-nil (x .given) ∙ m .given };
 }
@@ -365,9 +366,10 @@ empty-path q safe h =
     let o : q .o ≡ 1 = eqb-true (q .o) 1 (c .1) in
     let l : length (q .slots) ≡ 0 = eqb-true (length (q .slots)) 0 (b .1) in
     let s : q .slots ≡ [] = nil-of (q .slots) l in
-    let n : q .orders ≡ 0 = omega (arith, safe .sound .orders-few) in
+    let f : q .fills ≡ 0 = safe .sound .fills-all ∙ ap fillsOf s in
+    let n : q .orders ≡ 0 = safe .sound .orders-all ∙ ap (λ (x : List Slot). length (ordersOf x)) s in
     let k : q .acked ≡ 0 = eqb-true (q .acked) 0 (a .1) in
-    λ i. record { e = sym e i; o = sym o i; slots = sym s i; orders = sym n i; acked = sym k i }
+    λ i. record { e = sym e i; o = sym o i; slots = sym s i; fills = sym f i; orders = sym n i; acked = sym k i }
 
 tells-day : (st : State) (d : Did) → numberTold (d .answer) ≡ none → d .next .kept .slots ≡ [] → Tells st d
 tells-day st d u e n = ((λ h. none-some n (sym u ∙ h)), λ x. no-empty (st .kept .slots) (x .0) (sym e ∙ x .1 .slots))
@@ -411,28 +413,28 @@ neither why true rest h = none-some why (sym h)
 neither why false rest h = (refl, h)
 
 -- a call that can write messages, and is not refused: its time is good, and O is not used up
-pub may-write : (b : Lent) (time : List ℕ) (allowed : Bool) (o : ℕ) → writing b time allowed o ≡ none → (badGiven time ≡ false) × (o ≤ lastNumber)
+pub may-write : (setup : Setup) (b : Lent) (time : List ℕ) (allowed : Bool) (o : ℕ) → writing setup b time allowed o ≡ none → (badGiven time ≡ false) × (o ≤ lastToSend)
 unfolding writing
-may-write b time allowed o h =
-    let x = neither refusal.ShortBuffer (shortReply (b .reply) || shortNote (b .note)) _ h in
+may-write setup b time allowed o h =
+    let x = neither refusal.ShortBuffer (shortReply (b .reply) || shortNote setup (b .note)) _ h in
     let y = neither refusal.BadTime (badGiven time) _ (x .1) in
     let z = neither refusal.WrongPhase (not allowed) _ (y .1) in
-    (y .0, ltb-false lastNumber o (not-refused refusal.NumbersUsed (ltb lastNumber o) (z .1)))
+    (y .0, ltb-false lastToSend o (not-refused refusal.NumbersUsed (ltb lastToSend o) (z .1)))
 
 module _ (setup : Setup) where
-  acts-unrefused : (st : State) (b : Lent) (w : What) → startsAgain w ≡ false → Safe (st .kept) → st .offered ≤ length (st .kept .slots) → refusalOf st b w ≡ none
+  acts-unrefused : (st : State) (b : Lent) (w : What) → startsAgain w ≡ false → Safe (st .kept) → st .offered ≤ length (st .kept .slots) → refusalOf setup st b w ≡ none
       → Acts st w (unrefused setup st w)
   unfolding refusalOf unrefused
-  acts-unrefused st b (Own-call own time) r safe high h = acts-owned setup st time own (safe .sound .expected) (may-write b time (mayCall own (st .phase)) (st .kept .o) h .1)
+  acts-unrefused st b (Own-call own time) r safe high h = acts-owned setup st time own (safe .sound .expected) (may-write setup b time (mayCall own (st .phase)) (st .kept .o) h .1)
   acts-unrefused st b Line-lost r safe high h = acts-lost st
-  acts-unrefused st b (Message time s) r safe high h = acts-message setup st time s safe (may-write b time (isOn (st .phase)) (st .kept .o) h .1)
+  acts-unrefused st b (Message time s) r safe high h = acts-message setup st time s safe (may-write setup b time (isOn (st .phase)) (st .kept .o) h .1)
   acts-unrefused st b Offer r safe high h = acts-offer st
   acts-unrefused st b Begin-again r safe high h = acts-begin st (safe .sound .mark)
   acts-unrefused st b (Acknowledge n) r safe high h =
-      let x = neither refusal.ShortBuffer (shortNote (b .note)) _ h in
+      let x = neither refusal.ShortBuffer (shortNote setup (b .note)) _ h in
       acts-acknowledge st n high (ltb-false (st .offered) n (not-refused refusal.NotOffered (ltb (st .offered) n) (x .1)))
   acts-unrefused st b New-day r safe high h =
-      let x = neither refusal.ShortBuffer (shortNote (b .note)) _ h in
+      let x = neither refusal.ShortBuffer (shortNote setup (b .note)) _ h in
       let y = neither refusal.WrongPhase (isOn (st .phase)) _ (x .1) in
       acts-day st safe (ltb-false (st .kept .acked) (length (st .kept .slots)) (not-refused refusal.StillWaiting (ltb (st .kept .acked) (length (st .kept .slots))) (y .1)))
   acts-unrefused st b (Restart notes) r safe high h = acts-restart st notes (restart notes) refl r
@@ -440,9 +442,9 @@ module _ (setup : Setup) where
   -- every call but a restart
   pub acts : (st : State) (b : Lent) (w : What) → startsAgain w ≡ false → Safe (st .kept) → st .offered ≤ length (st .kept .slots) → Acts st w (does setup st b w)
   unfolding does
-  acts st b w r safe high = go (refusalOf st b w) refl
+  acts st b w r safe high = go (refusalOf setup st b w) refl
     where
-      go : (o : Option Refusal) → refusalOf st b w ≡ o → Acts st w (unless-refused st o (unrefused setup st w))
+      go : (o : Option Refusal) → refusalOf setup st b w ≡ o → Acts st w (unless-refused st o (unrefused setup st w))
       go none e = acts-unrefused st b w r safe high e
       go (some why) e = acts-quiet st w (Refused why) refl refl refl refl
 

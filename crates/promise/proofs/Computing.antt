@@ -81,7 +81,7 @@ unfolding place.sumWhere place.inStep kept.bookable kept.lawful kept.after resta
 keeping = tt
 
 unfoldable pub noting : Unit {0}
-unfolding kinds.kindOf notes.noteBytes notes.slotAs notes.bookedBytes notes.readAs notes.readNote
+unfolding kinds.noteKind notes.noteBytes notes.slotAs notes.bookedBytes notes.readAs notes.readNote
 noting = tt
 
 unfoldable pub taking : Unit {0}

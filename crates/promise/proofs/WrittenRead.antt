@@ -34,7 +34,7 @@ use Rattle.fill.specs.Slot.{Slot, fillMark}
 use Rattle.book.specs.Place.{sameExec, sameOrder, sameSymbol, sameSide, sameContents, byOrder, byExec, place, hasRoom}
 use Rattle.book.specs.declared.Placed.{Placed}
 use Rattle.book.specs.declared.Placed.the-variants as placed
-use Rattle.note.specs.Notes.{Note, Leaves, Books, Marks, Clears, Whole}
+use Rattle.note.specs.Notes.{Note, Raises, Books, Acks, Clears, Whole}
 use Rattle.note.proofs.Reading.{Fits, note-length, reads-back, reads-part}
 use Rattle.note.proofs.Keeping.{Sound}
 use Rattle.report.specs.Report.{Report, rule14, rule151, rule150, rule39, unlessKept, ruleFault, isAside, afterRules, reportedOf, reportIn, reportedIn, slotIn}
@@ -69,9 +69,9 @@ pub messages-read-back : MessagesReadBack
 messages-read-back setup o time word say given = wire.reads-back setup o time word say given
 
 fits : (n : Note) → Writable n → Fits n
-fits (Leaves e o) h = h
+fits (Raises e o) h = h
 fits (Books e o s) h = (h .0, h .1, record { wide = h .2; marked = eqb-true (getD s 0 0) fillMark (h .3) })
-fits (Marks n) h = h
+fits (Acks n) h = h
 fits Clears h = h
 
 pub notes-read-back : NotesReadBack
@@ -231,7 +231,7 @@ module _ (setup : Setup) (st : State) (time s : List ℕ) (ids : Agreed setup) (
     booked-replied : (f : Slot) → Does (withRoom st f)
     unfolding withRoom carriedOut booked
     booked-replied f =
-        of-cond Does (hasRoom (st .kept .slots) (st .kept .orders) f)
+        of-cond Does (hasRoom (st .kept .slots) (st .kept .fills) (st .kept .orders) f)
         (λ _. replies-nothing setup (st .kept .o) time (wordIn s (found.Framed len)) (booked st len f) refl refl)
         (λ _. quiet-replied (found.Framed len) (answer.Refused refusal.NoRoom) refl)
 
@@ -303,28 +303,28 @@ module _ (setup : Setup) (st : State) (b : Lent) (ids : Agreed setup) (sound : S
   nothing-said : (w : What) (d : Did) → d .reply ≡ [] → isRejected (d .answer) ≡ false → Fine w d
   nothing-said w d e h = replies-nothing setup (st .kept .o) (stampOf w) (wordOf w) d e h
 
-  o-fits : (time : List ℕ) (allowed : Bool) → writing b time allowed (st .kept .o) ≡ none → st .kept .o < 2 ^ 32
-  o-fits time allowed h = let x = may-write b time allowed (st .kept .o) h .1 in omega arith
+  o-fits : (time : List ℕ) (allowed : Bool) → writing setup b time allowed (st .kept .o) ≡ none → st .kept .o < 2 ^ 32
+  o-fits time allowed h = let x = may-write setup b time allowed (st .kept .o) h .1 in omega arith
 
   e-fits : st .kept .e < 2 ^ 32
   e-fits = let x = sound .expected in omega arith
 
-  own-said : (own : Own) (time : List ℕ) → writing b time (mayCall own (st .phase)) (st .kept .o) ≡ none → Fine (Own-call own time) (owned setup st time own)
+  own-said : (own : Own) (time : List ℕ) → writing setup b time (mayCall own (st .phase)) (st .kept .o) ≡ none → Fine (Own-call own time) (owned setup st time own)
   unfolding owned
   own-said own time h =
-      let stamp = time-clear time (may-write b time (mayCall own (st .phase)) (st .kept .o) h .0) in
+      let stamp = time-clear time (may-write setup b time (mayCall own (st .phase)) (st .kept .o) h .0) in
       let x = own-sayable own in
       replies-with setup (st .kept .o) time (λ (r : Reply). []) (owned setup st time own) (One (says own)) ids stamp (o-fits time (mayCall own (st .phase)) h) refl (x .0) (x .1)
 
   unsaid : (w : What) → sortOf w .lent .reply ≡ false → Fine w (unrefused setup st w)
   unsaid w h = let x = bare setup st w h in nothing-said w (unrefused setup st w) (x .reply) (x .rejected)
 
-  unrefused-said : (w : What) → refusalOf st b w ≡ none → Fine w (unrefused setup st w)
+  unrefused-said : (w : What) → refusalOf setup st b w ≡ none → Fine w (unrefused setup st w)
   unfolding refusalOf unrefused
   unrefused-said (Own-call own time) h = own-said own time h
   unrefused-said Line-lost h = unsaid Line-lost refl
   unrefused-said (Message time s) h =
-      let x = may-write b time (isOn (st .phase)) (st .kept .o) h in
+      let x = may-write setup b time (isOn (st .phase)) (st .kept .o) h in
       message-replied setup st time s ids (time-clear time (x .0)) e-fits (o-fits time (isOn (st .phase)) h)
   unrefused-said Offer h = unsaid Offer refl
   unrefused-said Begin-again h = unsaid Begin-again refl
@@ -334,9 +334,9 @@ module _ (setup : Setup) (st : State) (b : Lent) (ids : Agreed setup) (sound : S
 
   call-said : (w : What) → Fine w (does setup st b w)
   unfolding does
-  call-said w = go (refusalOf st b w) refl
+  call-said w = go (refusalOf setup st b w) refl
     where
-      go : (o : Option Refusal) → refusalOf st b w ≡ o → Fine w (unless-refused st o (unrefused setup st w))
+      go : (o : Option Refusal) → refusalOf setup st b w ≡ o → Fine w (unless-refused st o (unrefused setup st w))
       go none e = unrefused-said w e
       go (some why) e = nothing-said w (quiet (answer.Refused why) st) refl refl
 

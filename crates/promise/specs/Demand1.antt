@@ -74,7 +74,7 @@ isFilled reported.Fill = true
 
 -- a new fill, and no room for it
 abbrev pub unplaced : State → Slot → Bool
-unplaced st f = isNew (place (st .kept .slots) f) && not (hasRoom (st .kept .slots) (st .kept .orders) f)
+unplaced st f = isNew (place (st .kept .slots) f) && not (hasRoom (st .kept .slots) (st .kept .fills) (st .kept .orders) f)
 
 abbrev pub crowded : Setup → State → Pieces → Bool
 crowded setup st ps = isReport (judge setup (sessionOf st) ps) && isFilled (reportedIn ps) && unplaced st (slotIn ps)
@@ -158,7 +158,7 @@ pub record Demand1 (setup : Setup) (st : State) (b : Lent) (t : Tally) (w : What
   -- "no room" is given exactly for a framed report in its turn that would be booked but for room, where no row above it holds
   pub room : (time s : List ℕ) → w ≡ Message time s → (refusedWith (call setup st b t w .did .answer) ≡ some refusal.NoRoom)
       ↔ ((firstThere (above5 st b w) ≡ none)
-      × ((len : ℕ) × Bookable setup st s len × (hasRoom (st .kept .slots) (st .kept .orders) (slotIn (piecesOf (bodyIn len s))) ≡ false)))
+      × ((len : ℕ) × Bookable setup st s len × (hasRoom (st .kept .slots) (st .kept .fills) (st .kept .orders) (slotIn (piecesOf (bodyIn len s))) ≡ false)))
   -- "unlawful note" exactly where `restart` finds one, with the place that it finds
   pub note : (notes : List ℕ) (at : ℕ) → w ≡ Restart notes → (refusedWith (call setup st b t w .did .answer) ≡ some (refusal.Unlawful at)) ↔ (restart notes ≡ Unlawful at)
 

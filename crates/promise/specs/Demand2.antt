@@ -18,7 +18,7 @@ use Rattle.answer.specs.declared.Kind.the-variants as kind
 use Rattle.answer.specs.declared.Outcome.{Outcome}
 use Rattle.answer.specs.declared.Outcome.the-variants.{Booked}
 use Rattle.fill.specs.Slot.{Slot, fullTime, execOf, orderOf, symbolOf, sideOf, quantityOf, sharesOf, priceOf, cumOf, timeOf}
-use Rattle.book.specs.Place.{place, ordersWith, hasRoom, inStep}
+use Rattle.book.specs.Place.{place, fillsWith, ordersWith, hasRoom, inStep}
 use Rattle.book.specs.declared.Placed.the-variants as placed
 use Rattle.note.specs.Notes.{Books}
 use Rattle.report.specs.Report.{reportIn, slotIn, ruleFault}
@@ -76,6 +76,7 @@ bookedResult st t len f = record {
         e = st .kept .e + 1;
         o = st .kept .o;
         slots = st .kept .slots ++ (f ∷ []);
+        fills = fillsWith (st .kept .fills) f;
         orders = ordersWith (st .kept .slots) (st .kept .orders) f;
         acked = st .kept .acked;
       };
@@ -101,6 +102,6 @@ pub record Carries (ps : Pieces) (f : Slot) : Type 0 where
 
 -- any such message, in any such state, at any such time, where there is room
 pub record Demand2 (setup : Setup) (st : State) (b : Lent) (t : Tally) (time s : List ℕ) (len : ℕ) : Type 0 where
-  pub booked : Bookable setup st s len → hasRoom (st .kept .slots) (st .kept .orders) (slotIn (piecesOf (bodyIn len s))) ≡ true → Unmet st b time
+  pub booked : Bookable setup st s len → hasRoom (st .kept .slots) (st .kept .fills) (st .kept .orders) (slotIn (piecesOf (bodyIn len s))) ≡ true → Unmet st b time
       → call setup st b t (Message time s) ≡ bookedResult st t len (slotIn (piecesOf (bodyIn len s)))
   pub carries : Bookable setup st s len → Carries (piecesOf (bodyIn len s)) (slotIn (piecesOf (bodyIn len s)))

@@ -1,14 +1,18 @@
--- How many orders the day's fills are of, counted from the fills themselves: "128 orders".
-use Prim.Native.Nat.{ℕ, _+_}
-use mathlib.Core.List.{List, [], _∷_, _++_}
-use mathlib.Core.Bool.{cond}
-use Rattle.fill.specs.Slot.{Slot}
-use Rattle.book.specs.Place.{knownOrder}
+-- The counts that are kept by value, and the slots they are of: "Then room: 512 fills, 128 orders".
+use mathlib.Core.Path.{_≡_}
+use mathlib.Core.Bool.{_&&_, _||_}
+use lib.Dec.{ltb}
+use lib.ListN.{length}
+use Rattle.fill.specs.Slot.{Slot, orderOf}
+use Rattle.book.specs.Place.{hasRoom}
+use Rattle.book.specs.Orders.{ordersOf, fillsOf, isAmong}
+use Rattle.note.specs.Kept.{Kept}
 
--- a fill counts where no fill before it is of the same order
-abbrev pub ordersAfter : List Slot → List Slot → ℕ
-ordersAfter before [] = 0
-ordersAfter before (s ∷ ss) = cond (knownOrder before s) 0 1 + ordersAfter (before ++ (s ∷ [])) ss
-
-abbrev pub ordersOf : List Slot → ℕ
-ordersOf ss = ordersAfter [] ss
+pub record Counted (q : Kept) : Type 0 where
+  -- the fills that are kept count the day's fills, and the orders the OrderIDs of these, each once
+  pub fills : q .fills ≡ fillsOf (q .slots)
+  pub orders : q .orders ≡ length (ordersOf (q .slots))
+  -- so room is the paper's: fewer than 512 fills, and its OrderID known or fewer than 128 of them
+  pub room : (f : Slot)
+      → hasRoom (q .slots) (q .fills) (q .orders) f
+      ≡ ltb (fillsOf (q .slots)) 512 && (isAmong (orderOf f) (ordersOf (q .slots)) || ltb (length (ordersOf (q .slots))) 128)

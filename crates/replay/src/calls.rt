@@ -2,7 +2,7 @@
 use super::World;
 use super::script::Ask;
 use super::script::Ledger;
-use fill::BOOK;
+use book::BOOK;
 use receiver::Received;
 use receiver::Told;
 use session::Own;
@@ -50,13 +50,14 @@ fn ledger_call(
     note: &mut [u8],
     listed: &mut [u8],
 ) -> Told {
+    let setup = w.setup;
     let st = w.state;
     match ask {
-        Ledger::Offer => receiver::offer(st, book, listed),
-        Ledger::Again => receiver::begin_again(st),
-        Ledger::Ack(n) => receiver::acknowledge(st, book, n, note),
-        Ledger::NewDay => receiver::new_day(st, book, note),
-        Ledger::Restart(end) => receiver::restart_from(st, book, between(bytes, 0, end)),
+        Ledger::Offer => receiver::offer(setup, st, book, listed),
+        Ledger::Again => receiver::begin_again(setup, st),
+        Ledger::Ack(n) => receiver::acknowledge(setup, st, book, n, note),
+        Ledger::NewDay => receiver::new_day(setup, st, book, note),
+        Ledger::Restart(end) => receiver::restart_from(setup, st, book, between(bytes, 0, end)),
     }
 }
 
@@ -98,7 +99,7 @@ pub(crate) fn hand(
                 tally,
             )
         }
-        Ask::Lost => beside(receiver::line_lost(w.state), tally),
+        Ask::Lost => beside(receiver::line_lost(w.setup, w.state), tally),
         Ask::Message(middle, end) => {
             let time = between(bytes, 0, middle);
             let given = between(bytes, middle, end);

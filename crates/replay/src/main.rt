@@ -8,7 +8,7 @@ mod running; // a line, run on what a script works on
 mod reading; // standard input, line by line
 
 use answer::Setup;
-use fill::BOOK;
+use book::BOOK;
 use receiver::State;
 use tally::Tally;
 

@@ -6,7 +6,7 @@ use super::running::fresh_world;
 use super::running::run_line;
 use super::running::what;
 use super::script::read_line;
-use fill::BOOK;
+use book::BOOK;
 use libc::STDIN_FILENO;
 
 // Where the reading stands: how many bytes of a line have come, and whether there may be more.

@@ -13,7 +13,7 @@ use super::transcript::say_refusal;
 use super::transcript::show;
 use super::transcript::text_of;
 use answer::Setup;
-use fill::BOOK;
+use book::BOOK;
 use receiver::Answer;
 use receiver::Leave;
 use receiver::Received;
