@@ -28,7 +28,7 @@ size_t bench_listing(const uint8_t *notes, size_t notes_len, uint8_t *book, uint
 size_t bench_find(const uint8_t *bytes, size_t bytes_len);
 uint8_t bench_index(const uint8_t *body, size_t body_len, size_t *index);
 uint8_t bench_judge(const uint8_t *ours, size_t n, const uint8_t *theirs, size_t k, uint32_t e, const uint8_t *body, size_t body_len);
-uint8_t bench_admit(const uint8_t *book, size_t count, uint32_t orders, const uint8_t *slot, size_t slot_len);
+uint8_t bench_admit(const uint8_t *book, size_t last, uint32_t fills, uint32_t orders, const uint8_t *slot, size_t slot_len);
 }
 
 // what a message came to, what the session says of a report, and what the book says of a fill, as crates/bench numbers them
@@ -326,7 +326,7 @@ struct Bench {
         auto find = [&]() { return bench_find(bytes_of(m), m.size()); };
         auto index = [&]() { return bench_index(bytes_of(body), body.size(), cells); };
         auto judge = [&]() { return bench_judge(OURS, 4, THEIRS, 4, FILLS, bytes_of(body), body.size()); };
-        auto admit = [&](int fills) { return bench_admit(full.book.data(), fills, ORDERS - 1, slot.data(), slot.size()); };
+        auto admit = [&](int fills) { return bench_admit(full.book.data(), fills, fills, ORDERS - 1, slot.data(), slot.size()); };
         if (find() != m.size() || index() != 0 || body.substr(cells[14], cells[TAGS + 14]) != identifier("SPHR20261113", FILLS - 1) || cells[2 * TAGS + 14] != 1 ||
             judge() != TO_BE_BOOKED || admit(FILLS - 1) != NEW)
             give_up("a stage of the report's call");

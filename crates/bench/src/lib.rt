@@ -218,10 +218,16 @@ pub extern "C" fn bench_judge(
 
 // What becomes of a fill among the day's.
 #[no_mangle]
-pub extern "C" fn bench_admit(book: &[u8; BOOK], count: usize, orders: u32, slot: &[u8]) -> u8
-    ensures { λ r. ⌜ r ≡ admittedNumber (admitOf (slotsIn count (now (book .entry))) orders (now (slot .entry))) ⌝ }
+pub extern "C" fn bench_admit(
+    book: &[u8; BOOK],
+    last: usize,
+    fills: u32,
+    orders: u32,
+    slot: &[u8],
+) -> u8
+    ensures { λ r. ⌜ r ≡ admittedNumber (admitOf (slotsIn last (now (book .entry))) fills orders (now (slot .entry))) ⌝ }
 {
-    match book::admit(book, count, orders, slot) {
+    match book::admit(book, last, fills, orders, slot) {
         Admitted::Clash(_) => 1,
         Admitted::Already => 2,
         Admitted::Full => 3,
