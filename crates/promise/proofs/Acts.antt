@@ -47,7 +47,7 @@ use Rattle.session.specs.declared.Verdict.{Verdict}
 use Rattle.session.specs.declared.Verdict.the-variants.{Settled, Report}
 use Rattle.restart.specs.Restart.{Outcome as Restarting, Again, Unlawful, restart}
 use Rattle.receiver.specs.State.{State, woken, Did, quiet, noting, sessionOf, withSession, keeping, offering, noteOfChange}
-use Rattle.receiver.specs.Calls.{owned, lost, settled, bookingNote, booked, Deed, withRoom, placedFill, ruled, judgedBy, deedOf, carriedOut, framed, foundTo, message, offerOf, offer, beginAgain, acknowledge, isEmpty, newDay, restarted}
+use Rattle.receiver.specs.Calls.{owned, lost, settled, bookingNote, booked, Deed, withRoom, placedFill, ruled, deedAfter, deedOf, carriedOut, framed, foundTo, message, offerOf, offer, beginAgain, acknowledge, isEmpty, newDay, restarted}
 use Rattle.receiver.specs.Receiver.{What, Own-call, Line-lost, Message, Offer, Begin-again, Acknowledge, New-day, Restart, Lent, refuse, shortReply, badGiven, writing, refusalOf, unrefused, unless-refused, does}
 use Rattle.receiver.specs.declared.Answer.{Answer}
 use Rattle.receiver.specs.declared.Answer.the-variants.{Done, Refused, More, Garbled, Framed, None, Acked, Already}
@@ -254,8 +254,8 @@ module _ (setup : Setup) (st : State) (time s : List ℕ) (safe : Safe (st .kept
       acts-placed len ps n (place (st .kept .slots) (slotIn ps)) l (law (fill-told (lookOf ps) e .0)) refl
 
   acts-judged : (len : ℕ) → foundIn s ≡ found.Framed len → (v : Verdict) → judge setup (sessionOf st) (piecesOf (bodyIn len s)) ≡ v
-      → Acts st (Message time s) (carriedOut setup st time len (piecesOf (bodyIn len s)) (judgedBy st (lookOf (piecesOf (bodyIn len s))) v))
-  unfolding carriedOut judgedBy
+      → Acts st (Message time s) (carriedOut setup st time len (piecesOf (bodyIn len s)) (deedAfter st (lookOf (piecesOf (bodyIn len s))) v))
+  unfolding carriedOut deedAfter
   acts-judged len framed-so (Settled j) e =
       let ps : Pieces = piecesOf (bodyIn len s) in
       let low = safe .sound .expected in

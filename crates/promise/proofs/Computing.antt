@@ -85,7 +85,7 @@ unfolding kinds.noteKind notes.noteBytes notes.slotAs notes.bookedBytes notes.re
 noting = tt
 
 unfoldable pub taking : Unit {0}
-unfolding calls.settled calls.booked calls.withRoom calls.placedFill calls.ruled calls.judgedBy calls.deedOf calls.carriedOut calls.framed calls.foundTo calls.message
+unfolding calls.settled calls.booked calls.withRoom calls.placedFill calls.ruled calls.deedAfter calls.deedOf calls.carriedOut calls.framed calls.foundTo calls.message
 taking = tt
 
 unfoldable pub calling : Unit {0}

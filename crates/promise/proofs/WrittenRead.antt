@@ -52,7 +52,7 @@ use Rattle.session.specs.declared.Verdict.the-variants as verdict
 use Rattle.session.specs.declared.Verdict.the-variants.{Settled}
 use Rattle.session.proofs.Turns.{judge-report}
 use Rattle.receiver.specs.State.{State, Did, quiet, sessionOf}
-use Rattle.receiver.specs.Calls.{owned, lost, settled, booked, Deed, Say as Saying, withRoom, placedFill, ruled, judgedBy, deedOf, carriedOut, framed, foundTo, message, offerOf, offer, beginAgain, acknowledge, isEmpty, newDay, restarted}
+use Rattle.receiver.specs.Calls.{owned, lost, settled, booked, Deed, Say as Saying, withRoom, placedFill, ruled, deedAfter, deedOf, carriedOut, framed, foundTo, message, offerOf, offer, beginAgain, acknowledge, isEmpty, newDay, restarted}
 use Rattle.receiver.specs.Receiver.{What, Own-call, Line-lost, Message, Offer, Begin-again, Acknowledge, New-day, Restart, Lent, writing, refusalOf, unrefused, unless-refused, does}
 use Rattle.receiver.specs.declared.Answer.{Answer}
 use Rattle.receiver.specs.declared.Answer.the-variants as answer
@@ -251,8 +251,8 @@ module _ (setup : Setup) (st : State) (time s : List ℕ) (ids : Agreed setup) (
       ruled-replied reported.Aside h = said-replied (passed outcome.Aside (sessionOf st)) (passed-speaks ps clear (sessionOf st) outcome.Aside refl)
       ruled-replied reported.Fill h = placed-replied (place (st .kept .slots) (slotIn ps)) (place-small (st .kept .slots) (slotIn ps))
 
-    judged-replied : (v : Verdict) → judge setup (sessionOf st) ps ≡ v → Does (judgedBy st (lookOf ps) v)
-    unfolding judgedBy
+    judged-replied : (v : Verdict) → judge setup (sessionOf st) ps ≡ v → Does (deedAfter st (lookOf ps) v)
+    unfolding deedAfter
     judged-replied (Settled j) e = said-replied j (settled-speaks setup (sessionOf st) s len framed-so e-small o-small j e)
     judged-replied (verdict.Report n) e =
         let x = judge-report setup (sessionOf st) ps n e .most in
