@@ -27,6 +27,7 @@ use Rattle.field.specs.Pieces.{Pieces, piecesOf}
 use Rattle.field.specs.Look.{lookOf}
 use Rattle.fill.specs.Slot.{Slot, lineOf, slotLawful, fillMark}
 use Rattle.book.specs.Place.{place, isNew, hasRoom}
+use Rattle.book.specs.Orders.{ordersOf, fillsOf, ordersAfter, fillsAfter}
 use Rattle.book.specs.declared.Placed.{Placed}
 use Rattle.book.specs.declared.Placed.the-variants as placed
 use Rattle.note.specs.Notes.{Raises, Acks, Clears}
@@ -358,6 +359,7 @@ nil-of [] h = refl
 nil-of (x ∷ l) h = absurd (suc-ne-zero (length l) h)
 
 empty-path : (q : Kept) → Safe q → isEmpty q ≡ true → empty ≡ q
+unfolding fillsAfter ordersAfter
 empty-path q safe h =
     let a = and-both (eqb (q .e) 1 && eqb (q .o) 1 && eqb (length (q .slots)) 0) (eqb (q .acked) 0) h in
     let b = and-both (eqb (q .e) 1 && eqb (q .o) 1) (eqb (length (q .slots)) 0) (a .0) in
