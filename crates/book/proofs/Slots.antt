@@ -2,11 +2,12 @@
 --     slots-length     there are as many as are counted
 --     slots-next     what is left of n slots after i of them: one more, and the rest
 --     slots-drop, slots-nth     the slots from i on, and the i-th
+--     slots-step, slots-end     the same as a loop reads them, through slotAt
 --     slots-append     a slot written after the last is one slot more
 --     slots-joined     a memory that begins with slots, one after another, has those slots
 --     slots-wide, joined-slots     a memory that has them whole: each is as wide as a slot, and joined they are its front
 --     appended-length     what is written leaves the memory's length
---     holding-slots, holding-own     a memory with slots laid over it
+--     holding-slots, holding-own, holding-more     a memory with slots laid over it
 use mathlib.Core.Path.{_≡_, refl, sym, ap, ap₂, _∙_}
 use mathlib.Core.List.{List, [], _∷_, _++_, append-assoc}
 use mathlib.Core.Bool.{false}
@@ -22,9 +23,9 @@ use borrow.Author.Tests.{lt-ltb, eq-eqb}
 use Rattle.octet.specs.Bytes.{part, joined}
 use Rattle.octet.specs.Splice.{splice}
 use Rattle.octet.proofs.Cases.{le-or-lt, of-cond, and-make, cond-true, cond-false}
-use Rattle.octet.proofs.Lists.{drop-take, splice-in, splice-read, splice-before, splice-length}
+use Rattle.octet.proofs.Lists.{drop-take, joined-append, joined-one, splice-join, splice-in, splice-read, splice-before, splice-length}
 use Rattle.fill.specs.Slot.{Slot, slotWidth}
-use Rattle.book.specs.Memory.{mostSlots, bookWidth, slotsIn, fitsAfter, appended, holding}
+use Rattle.book.specs.Memory.{mostSlots, bookWidth, slotsIn, slotAt, fitsAfter, appended, holding}
 
 -- the slot at i lies within n of them
 pub slot-within : (n i : ℕ) → i < n → i * slotWidth + slotWidth ≤ n * slotWidth
@@ -73,6 +74,14 @@ slots-nth (suc n) zero m h = refl
 slots-nth (suc n) (suc i) m h =
     let e : slotWidth + i * slotWidth ≡ suc i * slotWidth = omega arith in
     slots-nth n i (drop slotWidth m) (omega arith) ∙ ap (take slotWidth) (drop-drop (i * slotWidth) slotWidth m ∙ ap (λ (k : ℕ). drop k m) e)
+
+-- as they are read: one by one through slotAt
+module _ (n i : ℕ) (m : List ℕ) where
+  pub slots-step : i < n → drop i (slotsIn n m) ≡ slotAt i m ∷ drop (i + 1) (slotsIn n m)
+  slots-step h = slots-drop n i m ∙ slots-next n i m h ∙ ap (λ (l : List Slot). slotAt i m ∷ l) (sym (slots-drop n (i + 1) m))
+
+  pub slots-end : n ≤ i → drop i (slotsIn n m) ≡ []
+  slots-end h = slots-drop n i m ∙ slots-last n i (drop (i * slotWidth) m) h
 
 -- ---- one slot more at the end
 slots-snoc : (n : ℕ) (m : List ℕ) → slotsIn (suc n) m ≡ slotsIn n m ++ (part (n * slotWidth) slotWidth m ∷ [])
@@ -184,3 +193,15 @@ inside-front m n k whole e =
     (λ h. (let a : k ≡ n = omega arith in ap (λ (j : ℕ). take (j * slotWidth) m) a))
     (λ h. (let a : k * slotWidth ≡ length m = omega arith in ap (λ (j : ℕ). take j m) a ∙ take-length m ∙ sym (take-all (n * slotWidth) m (omega arith))))
     (le-or-lt n mostSlots)
+
+-- and with one slot more it is the memory to which that is appended
+pub holding-more : (m : List ℕ) (n : ℕ) (s : Slot) → n < mostSlots → length s ≡ slotWidth → length m ≡ bookWidth → holding m (slotsIn n m ++ (s ∷ [])) ≡ appended m n s
+holding-more m n s h e l =
+    let k = n * slotWidth in
+    let t : length (take k m) ≡ k = length-take-le k m (omega arith) in
+    let i : 0 + length (take k m) ≡ k = omega arith in
+    ap (splice m 0) (joined-append (slotsIn n m) (s ∷ []) ∙ ap₂ (λ (x y : List ℕ). x ++ y) (joined-slots n m) (joined-one s))
+    ∙ sym (splice-join m 0 (take k m) s (omega arith))
+    ∙ ap (λ (x : List ℕ). splice x (0 + length (take k m)) s) (over-front k m)
+    ∙ ap (λ (j : ℕ). splice m j s) i
+    ∙ sym (appended-in m n s h e)

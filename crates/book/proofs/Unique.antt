@@ -1,16 +1,15 @@
 -- No second answer, and no second lent bytes, satisfy the promise of a public function.
-use Prim.Native.Nat.{ℕ, _*_}
+use Prim.Native.Nat.{ℕ}
 use mathlib.Core.Path.{_≡_}
 use mathlib.Core.List.{List}
 use mathlib.Core.Bool.{Bool}
-use Rattle.octet.specs.Bytes.{part}
 use Rattle.octet.proofs.Unique.{Answer, one-answer, Writes, one-writing}
-use Rattle.fill.specs.Slot.{Slot, slotWidth}
-use Rattle.book.specs.Memory.{slotsIn, fitsAfter, appended, holding}
+use Rattle.fill.specs.Slot.{Slot}
+use Rattle.book.specs.Memory.{slotsIn, slotAt, fitsAfter, appended, holding}
 use Rattle.book.specs.Admitting.{admitOf}
 use Rattle.book.specs.declared.Admitted.{Admitted}
 
-pub slot-at-one : (m : List ℕ) (i : ℕ) {r r′ : List ℕ} → Answer (part (i * slotWidth) slotWidth m) r → Answer (part (i * slotWidth) slotWidth m) r′ → r ≡ r′
+pub slot-at-one : (m : List ℕ) (i : ℕ) {r r′ : List ℕ} → Answer (slotAt i m) r → Answer (slotAt i m) r′ → r ≡ r′
 slot-at-one m i p q = one-answer p q
 
 module _ (m : List ℕ) (count : ℕ) (s : Slot) where

@@ -1,10 +1,10 @@
 -- The lent memory, of any content: its regions, and the day's slots in theirs.
-use Prim.Native.Nat.{ℕ, zero, suc, _+_, _*_}
+use Prim.Native.Nat.{ℕ, zero, suc, _*_}
 use mathlib.Core.List.{List, [], _∷_}
 use mathlib.Core.Bool.{Bool, cond, _&&_}
 use lib.ListN.{length, take, drop}
 use lib.Dec.{ltb, eqb}
-use Rattle.octet.specs.Bytes.{joined}
+use Rattle.octet.specs.Bytes.{part, joined}
 use Rattle.octet.specs.Splice.{splice}
 use Rattle.fill.specs.Slot.{Slot, slotWidth}
 
@@ -28,6 +28,10 @@ bookWidth = slotsWidth
 unfoldable pub slotsIn : ℕ → List ℕ → List Slot
 slotsIn zero m = []
 slotsIn (suc count) m = take slotWidth m ∷ slotsIn count (drop slotWidth m)
+
+-- the i-th slot of a memory, from 0; no bytes past its end
+abbrev pub slotAt : ℕ → List ℕ → Slot
+slotAt i m = part (i * slotWidth) slotWidth m
 
 -- whether a slot can be written after the last of `count`
 abbrev pub fitsAfter : ℕ → Slot → Bool

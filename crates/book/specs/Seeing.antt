@@ -6,13 +6,12 @@ use mathlib.Core.Option.{Option, none, some}
 use mathlib.Core.Bool.{Bool, cond, not, _&&_, _||_}
 use lib.ListN.{drop}
 use lib.Dec.{ltb}
-use Rattle.octet.specs.Bytes.{part}
 use Rattle.octet.specs.Maybe.{find, isNone}
 use Rattle.octet.specs.Places.{wordAt}
 use Rattle.fill.specs.Slot.{Slot, slotWidth, execOf, orderOf, sharesOf}
 use Rattle.answer.specs.Numbers.{largest}
 use Rattle.book.specs.Place.{sameExec, sameOrder, byExec, sumWhere, mostFills, mostOrders}
-use Rattle.book.specs.Memory.{slotsIn, mostSlots}
+use Rattle.book.specs.Memory.{mostSlots, slotsIn, slotAt}
 use Rattle.book.specs.declared.Placed.{Placed}
 use Rattle.book.specs.declared.Seen.{Seen}
 use Rattle.book.specs.declared.Glance.{Glance}
@@ -26,8 +25,8 @@ someSlot (b ∷ s) = some (b ∷ s)
 -- order's booked sum
 abbrev pub Sees : List ℕ → Slot → List Slot → Seen → Type 0
 Sees m f ss seen =
-    (someSlot (part (seen .exec * slotWidth) slotWidth m) ≡ find (sameExec f) ss)
-    × (someSlot (part (seen .order * slotWidth) slotWidth m) ≡ find (sameOrder f) ss)
+    (someSlot (slotAt (seen .exec) m) ≡ find (sameExec f) ss)
+    × (someSlot (slotAt (seen .order) m) ≡ find (sameOrder f) ss)
     × (seen .booked ≡ sumWhere (sameOrder f) ss)
 
 -- slots r to n of the memory may be passed over, for any fill of which these are the glances: what was seen after n is all that is seen after r

@@ -5,12 +5,12 @@ ghost use mathlib.Core.Bool.{cond};
 ghost use Prim.Native.Nat.{_+_, _-_, _*_, _≤_, _<_, min};
 ghost use lib.ListN.{length};
 ghost use lib.Dec.{eqb};
-ghost use Rattle.octet.specs.Bytes.{same, part};
+ghost use Rattle.octet.specs.Bytes.{same};
 ghost use Rattle.octet.specs.Places.{wordAt};
 ghost use Rattle.answer.specs.Numbers.{fault, largest};
 ghost use Rattle.fill.specs.Slot.{slotWidth, execOf, orderOf, sharesOf, cumOf};
 ghost use Rattle.book.specs.Place.{sameContents, sameExec, sameOrder, byOrder, fillsWith, carried};
-ghost use Rattle.book.specs.Memory.{mostSlots, bookWidth, slotsIn, fitsAfter, appended, holding};
+ghost use Rattle.book.specs.Memory.{mostSlots, bookWidth, slotsIn, slotAt, fitsAfter, appended, holding};
 ghost use Rattle.book.specs.declared.Placed.the-variants.{Clash};
 ghost use Rattle.book.specs.Admitting.{admitOf};
 ghost use Rattle.book.specs.Seeing.{someSlot, Sees, Passes, seenExec, seenOrder, roomFor, ordersFor, PlacedBy};
@@ -384,7 +384,7 @@ fn place_of(i: usize) -> usize
 
 // The i-th slot of the memory, from 0; no bytes past its end.
 pub fn slot_at(book: &[u8; BOOK], i: usize) -> &[u8]
-    ensures { λ r. ⌜ now r ≡ part (i * slotWidth) slotWidth (now (book .entry)) ⌝ }
+    ensures { λ r. ⌜ now r ≡ slotAt i (now (book .entry)) ⌝ }
 {
     if SLOTS <= i {
         return octet::part(book, BOOK, 0);

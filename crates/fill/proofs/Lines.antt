@@ -13,7 +13,7 @@ use lib.Seq.{take-length, take-take}
 use Rattle.octet.specs.Bytes.{bytesOf, between, allIn, part}
 use Rattle.octet.specs.Places.{numberIn, bigEndian}
 use Rattle.octet.proofs.Cases.{le-or-lt, and-make}
-use Rattle.octet.proofs.Lists.{is-between, part-at}
+use Rattle.octet.proofs.Lists.{is-between, part-at, part-most}
 use Rattle.octet.proofs.Places.{below-pow, value-below}
 use Rattle.octet.specs.Splice.{splice, fitsAt}
 use Rattle.octet.specs.Padded.{textOf}
@@ -36,12 +36,9 @@ pub time-cut : (s : Slot) → take 21 (timeOf s) ≡ timeOf s
 time-cut s = take-take 21 21 (drop (placeOf 8) s) (omega arith)
 
 -- ---- how long
-text-most : (width : ℕ) (f : List ℕ) → length f ≤ suc width → length (textOf f) ≤ width
+pub text-most : (width : ℕ) (f : List ℕ) → length f ≤ suc width → length (textOf f) ≤ width
 unfolding textOf
 text-most width f h = rw (length-take, length-drop) (omega arith)
-
-field-most : (at n : ℕ) (s : List ℕ) → length (part at n s) ≤ n
-field-most at n s = rw length-take (omega arith)
 
 price-most : (p : ℕ) → p < 256 ^ 8 → length (priceText p) ≤ 21
 unfolding priceText
@@ -53,20 +50,20 @@ line-by : (n : ℕ) (s : Slot) → n < 256 ^ 4 → sideOf s < 256 → sharesOf s
 unfolding lineOf
 line-by n s hn hs hq hp =
     let a = decimal-length 9 n (omega arith) in
-    let b = text-most 20 (execOf s) (field-most (placeOf 0) (widthOf 0) s) in
-    let d = text-most 20 (orderOf s) (field-most (placeOf 1) (widthOf 1) s) in
-    let e = text-most 8 (symbolOf s) (field-most (placeOf 2) (widthOf 2) s) in
+    let b = text-most 20 (execOf s) (part-most (placeOf 0) (widthOf 0) s) in
+    let d = text-most 20 (orderOf s) (part-most (placeOf 1) (widthOf 1) s) in
+    let e = text-most 8 (symbolOf s) (part-most (placeOf 2) (widthOf 2) s) in
     let f = decimal-length 2 (sideOf s) (omega arith) in
     let g = decimal-length 9 (sharesOf s) (omega arith) in
     let h = price-most (priceOf s) hp in
-    let i = field-most (placeOf 8) (widthOf 8) s in
+    let i = part-most (placeOf 8) (widthOf 8) s in
     simp length-append (omega arith)
 
 -- numbers of bytes fit
 bytes-part : (at n : ℕ) (s : List ℕ) → ((i : ℕ) → getD s i 0 < 256) → (i : ℕ) → getD (part at n s) i 0 < 256
 bytes-part at n s h i =
     ⊎-elim
-    (λ g. rw (List·getD-eq-default (part at n s) 0 {n = i} (le-trans (field-most at n s) g)) (omega arith))
+    (λ g. rw (List·getD-eq-default (part at n s) 0 {n = i} (le-trans (part-most at n s) g)) (omega arith))
     (λ g. rw (part-at at n i s g) (h (at + i)))
     (le-or-lt n i)
 
@@ -77,7 +74,7 @@ bytes-in (b ∷ s) h = and-make (between 0 255 b) (allIn 0 255 s) (is-between 0 
 number-most : (at n : ℕ) (s : List ℕ) → ((i : ℕ) → getD s i 0 < 256) → bigEndian (part at n s) < 256 ^ n
 unfolding numberIn
 number-most at n s h =
-    below-pow 256 n (lit< tt) (value-below 256 0 (lit< tt) 255 (lit< tt) (part at n s) (bytes-in (part at n s) (bytes-part at n s h))) (field-most at n s)
+    below-pow 256 n (lit< tt) (value-below 256 0 (lit< tt) 255 (lit< tt) (part at n s) (bytes-in (part at n s) (bytes-part at n s h))) (part-most at n s)
 
 -- a line has at most lineRoom bytes, 128, whatever the bytes of the slot
 pub line-short : (n : ℕ) (s : Slot) → n < 256 ^ 4 → ((i : ℕ) → getD s i 0 < 256) → length (lineOf n s) ≤ lineRoom

@@ -11,19 +11,19 @@ use lib.Seq.{take-add, drop-drop, take-all, take-append-seam, drop-append-seam}
 use lib.Dec.{leb}
 use borrow.Author.Tests.{leb-true, ltb-false, lt-ltb, le-ltb}
 use Rattle.octet.specs.Bytes.{between, part}
-use Rattle.octet.specs.Padded.{textOf}
 use Rattle.octet.specs.Splice.{splice, fitsAt}
 use Rattle.octet.proofs.Cases.{of-cond, cond-true, cond-false, and-both, and-left, and-right}
 use Rattle.octet.proofs.Lists.{part-most, between-high, splice-join, splice-then, splice-nil, splice-read, splice-length, fits-true}
 use Rattle.text.specs.Decimal.{priceText}
 use Rattle.text.proofs.Decimals.{decimal-length, fixed-length}
 use Rattle.value.specs.Value.{isTime}
-use Rattle.fill.specs.Slot.{Slot, slotWidth, placeOf, widthOf, isFill, execOf, orderOf, symbolOf, sideOf, sharesOf, priceOf, timeOf, textsLawful, sumsLawful, mostPrice, slotLawful, lineOf}
+use Rattle.fill.specs.Slot.{Slot, placeOf, widthOf, isFill, execOf, orderOf, symbolOf, sideOf, sharesOf, priceOf, timeOf, textsLawful, sumsLawful, mostPrice, slotLawful, lineOf}
 use Rattle.answer.specs.Numbers.{mostContracts, largest}
 use Rattle.fill.proofs.Lawful.{lawful-sums}
-use Rattle.book.specs.Memory.{mostSlots, slotsIn}
+use Rattle.fill.proofs.Lines.{text-most}
+use Rattle.book.specs.Memory.{mostSlots, slotsIn, slotAt}
 use Rattle.book.specs.Place.{sumWhere}
-use Rattle.book.proofs.Slots.{slots-length, slots-drop, slots-next, slots-last}
+use Rattle.book.proofs.Slots.{slots-length, slots-step, slots-end}
 use Rattle.note.specs.Kept.{Kept, waiting}
 use Rattle.note.proofs.Keeping.{AllLawful}
 use Rattle.restart.specs.Restart.{Outcome, Again, Unlawful, restart, countsOf, told, bookAfter, HasSlots}
@@ -51,10 +51,6 @@ lawful-shares s t =
     let b = f .quantity in
     let d = f .most in
     omega arith
-
-text-most : (width : ℕ) (f : List ℕ) → length f ≤ suc width → length (textOf f) ≤ width
-unfolding textOf
-text-most width f h = simp (length-take, length-drop) (omega arith)
 
 pub line-most : (n : ℕ) (s : Slot) → n < 1000 → slotLawful s ≡ true → length (lineOf n s) ≤ 99
 unfolding lineOf priceText
@@ -139,32 +135,25 @@ listing-counts notes q whole h e = listing-is notes h ∙ ap printed e
 
 -- ---- the loops: the slots from the i-th on
 module _ (n i : ℕ) (m : List ℕ) where
-  pub slots-step : i < n → drop i (slotsIn n m) ≡ part (i * slotWidth) slotWidth m ∷ drop (i + 1) (slotsIn n m)
-  slots-step h =
-      slots-drop n i m ∙ slots-next n i m h ∙ ap (λ (l : List Slot). part (i * slotWidth) slotWidth m ∷ l) (sym (slots-drop n (i + 1) m))
-
-  pub slots-end : n ≤ i → drop i (slotsIn n m) ≡ []
-  slots-end h = slots-drop n i m ∙ slots-last n i (drop (i * slotWidth) m) h
-
-  pub sum-step : (s : Slot) → i < n → s ≡ part (i * slotWidth) slotWidth m
+  pub sum-step : (s : Slot) → i < n → s ≡ slotAt i m
       → contracts (drop i (slotsIn n m)) ≡ cond (isFill s) (sharesOf s) 0 + contracts (drop (i + 1) (slotsIn n m))
   unfolding sumWhere
   sum-step s h e =
-      ap contracts (slots-step h) ∙ ap (λ (x : Slot). cond (isFill x) (sharesOf x) 0 + contracts (drop (i + 1) (slotsIn n m))) (sym e)
+      ap contracts (slots-step n i m h) ∙ ap (λ (x : Slot). cond (isFill x) (sharesOf x) 0 + contracts (drop (i + 1) (slotsIn n m))) (sym e)
 
   pub sum-done : n ≤ i → contracts (drop i (slotsIn n m)) ≡ 0
   unfolding sumWhere
-  sum-done h = ap contracts (slots-end h)
+  sum-done h = ap contracts (slots-end n i m h)
 
-  pub lines-step : (s : Slot) → i < n → s ≡ part (i * slotWidth) slotWidth m
+  pub lines-step : (s : Slot) → i < n → s ≡ slotAt i m
       → linesFrom (i + 1) (drop i (slotsIn n m)) ≡ lineOf (i + 1) s ++ linesFrom (i + 1 + 1) (drop (i + 1) (slotsIn n m))
   unfolding linesFrom
   lines-step s h e =
-      ap (linesFrom (i + 1)) (slots-step h) ∙ ap (λ (x : Slot). lineOf (i + 1) x ++ linesFrom (i + 1 + 1) (drop (i + 1) (slotsIn n m))) (sym e)
+      ap (linesFrom (i + 1)) (slots-step n i m h) ∙ ap (λ (x : Slot). lineOf (i + 1) x ++ linesFrom (i + 1 + 1) (drop (i + 1) (slotsIn n m))) (sym e)
 
   pub lines-done : n ≤ i → linesFrom (i + 1) (drop i (slotsIn n m)) ≡ []
   unfolding linesFrom
-  lines-done h = ap (linesFrom (i + 1)) (slots-end h)
+  lines-done h = ap (linesFrom (i + 1)) (slots-end n i m h)
 
 -- a text written part by part: `done` bytes of it stand there, and one part more
 module _ (page₀ whole : List ℕ) (at done : ℕ) where
@@ -207,7 +196,7 @@ lined-start page book at from fills =
     record { stands = g .0; to-come = g .1; after = omega arith; within = omega arith }
 
 pub lined-turn : (page₀ book page page′ : List ℕ) (at from fills end i n len : ℕ) (s : Slot) → at + length (linesIn from fills book) ≤ length page₀
-    → Lined page₀ book at from fills page end i → i < fills → n ≡ i + 1 → s ≡ part (i * slotWidth) slotWidth book → page′ ≡ splice page end (lineOf n s) → len ≡ length (lineOf n s)
+    → Lined page₀ book at from fills page end i → i < fills → n ≡ i + 1 → s ≡ slotAt i book → page′ ≡ splice page end (lineOf n s) → len ≡ length (lineOf n s)
     → Lined page₀ book at from fills page′ (end + len) (i + 1) × (end + len ≤ at + length (linesIn from fills book))
 lined-turn page₀ book page page′ at from fills end i n len s room h b en es ep el =
     let whole = linesIn from fills book in

@@ -1,6 +1,6 @@
 -- Laws of the queue: what each call answers, case by case; the waiting fills are those above the acknowledged mark, in order; offers after a
 -- begin-again give each of them in that order, and then none for ever.
-use Prim.Native.Nat.{ℕ, zero, suc, _+_, _-_, _*_, _≤_, _<_}
+use Prim.Native.Nat.{ℕ, zero, suc, _+_, _-_, _≤_, _<_}
 use mathlib.Core.Path.{_≡_, refl, sym, ap, _∙_}
 use mathlib.Core.List.{List, [], _∷_, _++_}
 use mathlib.Core.Option.{Option, none, some}
@@ -9,15 +9,14 @@ use native.Mathlib.Omega.{arith}
 use lib.ListN.{length, drop, getD, replicate}
 use lib.Seq.{drop-drop, getD-drop}
 use borrow.Author.Tests.{lt-ltb, le-ltb, le-leb, lt-leb}
-use Rattle.octet.specs.Bytes.{part}
 use Rattle.octet.specs.Maybe.{first}
 use Rattle.octet.specs.Splice.{splice, fitsAt}
 use Rattle.octet.proofs.Cases.{cond-true, cond-false}
 use Rattle.octet.proofs.Lists.{fits-true}
 use Rattle.answer.specs.declared.Refusal.the-variants as refusal
-use Rattle.fill.specs.Slot.{Slot, slotWidth, lineLeast, lineOf}
-use Rattle.book.specs.Memory.{slotsIn}
-use Rattle.book.proofs.Slots.{slots-drop, slots-next, slots-last}
+use Rattle.fill.specs.Slot.{Slot, lineLeast, lineOf}
+use Rattle.book.specs.Memory.{slotsIn, slotAt}
+use Rattle.book.proofs.Slots.{slots-step, slots-end}
 use Rattle.answer.specs.declared.Setup.{Setup}
 use Rattle.note.specs.Kinds.{noteLeast}
 use Rattle.note.specs.Notes.{Acks, noteBytes}
@@ -55,16 +54,16 @@ module _ (setup : Setup) (m : Marks) (ss : List Slot) (line : List ℕ) where
 module _ (setup : Setup) (m : Marks) (book line : List ℕ) where
   pub offer-past : lineLeast setup ≤ length line → m .last ≤ m .offered → Offered setup m (slotsIn (m .last) book) line offer.Nothing line
   offer-past h k =
-      offer-none setup m (slotsIn (m .last) book) line h (slots-drop (m .last) (m .offered) book ∙ slots-last (m .last) (m .offered) (drop (m .offered * slotWidth) book) k)
+      offer-none setup m (slotsIn (m .last) book) line h (slots-end (m .last) (m .offered) book k)
 
-  pub offer-next : (x : Slot) (len : ℕ) (line′ : List ℕ) → lineLeast setup ≤ length line → m .offered < m .last → x ≡ part (m .offered * slotWidth) slotWidth book
+  pub offer-next : (x : Slot) (len : ℕ) (line′ : List ℕ) → lineLeast setup ≤ length line → m .offered < m .last → x ≡ slotAt (m .offered) book
       → line′ ≡ splice line 0 (lineOf (m .offered + 1) x) → len ≡ cond (fitsAt line 0 (lineOf (m .offered + 1) x)) (length (lineOf (m .offered + 1) x)) 0
       → length (lineOf (m .offered + 1) x) ≤ lineLeast setup
       → Offered setup m (slotsIn (m .last) book) line (offer.Given (offeredUpTo (m .offered + 1) m) len) line′
   offer-next x len line′ h k ex el en short =
       let n = m .offered + 1 in
-      let s = part (m .offered * slotWidth) slotWidth book in
-      let g = offer-some setup m (slotsIn (m .last) book) line s _ h (slots-drop (m .last) (m .offered) book ∙ slots-next (m .last) (m .offered) book k) in
+      let s = slotAt (m .offered) book in
+      let g = offer-some setup m (slotsIn (m .last) book) line s _ h (slots-step (m .last) (m .offered) book k) in
       let fits : 0 + length (lineOf n x) ≤ length line = omega arith in
       let whole : len ≡ length (lineOf n s) = en ∙ cond-true (fitsAt line 0 (lineOf n x)) (length (lineOf n x)) 0 (fits-true line 0 (lineOf n x) fits) ∙ ap (λ (y : Slot). length (lineOf n y)) ex in
       (ap (offer.Given (offeredUpTo n m)) whole ∙ g .0, el ∙ ap (λ (y : Slot). splice line 0 (lineOf n y)) ex ∙ g .1)
