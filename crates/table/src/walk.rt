@@ -1,4 +1,5 @@
 // The walk of a table over a body, by the body's index: each row's tag, form and range.
+use super::Asked;
 use super::Cell;
 use super::Codes;
 use super::Form;
@@ -29,7 +30,7 @@ ghost use Rattle.answer.specs.Numbers.{nineDigits};
 ghost use Rattle.field.specs.Look.{lookIn};
 ghost use Rattle.table.specs.declared.Form.the-variants as form;
 ghost use Rattle.table.specs.Rows.{codesOf, tableOf};
-ghost use Rattle.table.specs.Steps.{numberOf, inRange, valueCheck, tagFault, applies, rowFault, walk, found};
+ghost use Rattle.table.specs.Steps.{numberOf, inRange, valueCheck, tagFault, applies, askedBy, rowFault, walk, found};
 
 // The number of a tag.
 pub fn number_at(body: &[u8], index: &Index, tag: u32) -> u32
@@ -170,24 +171,36 @@ fn tag_fault(
     }
 }
 
+fn asked_by(row: Row) -> Asked
+    ensures { λ r. ⌜ r ≡ askedBy row ⌝ }
+{
+    match row {
+        Row::Needs(tag, form, place) => Asked {
+            tag,
+            needed: true,
+            form,
+            place,
+        },
+        Row::May(tag, form, place) => Asked {
+            tag,
+            needed: false,
+            form,
+            place,
+        },
+    }
+}
+
 // The fault of a row. One that does not apply is passed over.
 fn row_fault(body: &[u8], index: &Index, given: Given, row: Row) -> Judgement
     ensures { λ r. ⌜ found r ≡ rowFault given (lookIn (now (body .entry)) (now (index .entry))) row ⌝ }
 {
-    match row {
-        Row::Needs(tag, form, place) => {
-            if !applies(place, given) {
-                return Judgement::Fine;
-            }
-            tag_fault(body, index, given, tag, true, form)
-        }
-        Row::May(tag, form, place) => {
-            if !applies(place, given) {
-                return Judgement::Fine;
-            }
-            tag_fault(body, index, given, tag, false, form)
-        }
+    let asked = asked_by(row);
+    let place = asked.place;
+    if !applies(place, given) {
+        return Judgement::Fine;
     }
+    let form = asked.form;
+    tag_fault(body, index, given, asked.tag, asked.needed, form)
 }
 
 // "The table of its type, top down".
