@@ -3,7 +3,8 @@ use Prim.Native.Nat.{ℕ}
 use mathlib.Core.Path.{_≡_, sym, _∙_}
 use mathlib.Core.List.{List}
 use Rattle.octet.proofs.Unique.{Writes, one-writing}
-use Rattle.listing.proofs.Unique.{Listed, write-listing-one}
+use Rattle.listing.specs.Listing.{Lists}
+use Rattle.listing.proofs.Unique.{write-listing-one}
 use Rattle.receiver.specs.State.{Did}
 use Rattle.restart.specs.Restart.{restart, told, bookAfter}
 use Rattle.frame.specs.Finding.{foundIn}
@@ -22,7 +23,7 @@ pub restart-one : (book notes : List ℕ) {r r′ : ℕ} {b b′ : List ℕ} →
 restart-one book notes p q = one-writing p q
 
 -- the answer, the bytes written and the lent book are those of the listing's own promise
-pub listing-one : (notes book out : List ℕ) {r r′ : ℕ} {o o′ b b′ : List ℕ} → Listed notes book out r o b → Listed notes book out r′ o′ b′
+pub listing-one : (notes book out : List ℕ) {r r′ : ℕ} {o o′ b b′ : List ℕ} → Lists notes book out r b o → Lists notes book out r′ b′ o′
     → (r ≡ r′) × (o ≡ o′) × (b ≡ b′)
 listing-one notes book out p q = write-listing-one notes book out p q
 

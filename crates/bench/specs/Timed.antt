@@ -3,7 +3,6 @@ use Prim.Native.Nat.{ℕ, _+_, _*_, _%_}
 use mathlib.Core.Path.{_≡_}
 use mathlib.Core.List.{List}
 use lib.ListN.{length}
-use Rattle.octet.specs.Splice.{splice}
 use Rattle.answer.specs.declared.Setup.{Setup}
 use Rattle.answer.specs.declared.Phase.the-variants.{In}
 use Rattle.answer.specs.declared.Outcome.{Outcome}
@@ -20,8 +19,6 @@ use Rattle.book.specs.declared.Admitted.{Admitted}
 use Rattle.book.specs.declared.Admitted.the-variants as admitted
 use Rattle.restart.specs.declared.Restarted.{Restarted}
 use Rattle.restart.specs.declared.Restarted.the-variants.{Again, Unlawful}
-use Rattle.note.specs.Notes.{written}
-use Rattle.listing.specs.Listing.{listing, bookListed}
 use Rattle.receiver.specs.Receiver.{does, Message}
 use Rattle.receiver.specs.Steps.{lentTo}
 use Rattle.receiver.specs.State.{Did, seen, toldOf, bookAfter, replyAfter, noteAfter}
@@ -85,11 +82,6 @@ pub record Timed (d : Did) (r : ℕ) (book book′ reply reply′ note note′ :
 abbrev pub TimedMessage : Setup → Stored → List ℕ → List ℕ → ℕ → List ℕ → List ℕ → List ℕ → List ℕ → List ℕ → List ℕ → Type 0
 TimedMessage setup st time bytes r book book′ reply reply′ note note′ =
     Timed (does setup (seen st book) (lentTo (length reply) (length note)) (Message time bytes)) r book book′ reply reply′ note note′
-
--- the listing of some notes: its length, and what it leaves in what it is lent
-abbrev pub TimedListing : List ℕ → ℕ → List ℕ → List ℕ → List ℕ → List ℕ → Type 0
-TimedListing notes r book book′ out out′ =
-    (r ≡ written out (listing notes)) × (out′ ≡ splice out 0 (listing notes)) × (book′ ≡ bookListed book notes)
 
 -- how many bytes of the notes are whole; 0 where one is unlawful
 abbrev pub wholeOf : Restarted → ℕ

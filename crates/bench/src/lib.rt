@@ -25,7 +25,8 @@ ghost use Rattle.book.specs.Memory.{slotsIn};
 ghost use Rattle.book.specs.Admitting.{admitOf};
 ghost use Rattle.frame.specs.Finding.{foundIn};
 ghost use Rattle.restart.specs.Restart.{restart, told, bookAfter};
-ghost use Rattle.bench.specs.Timed.{agreed, online, outcomeNumber, answerNumber, wordOf, TimedMessage, TimedListing, wholeOf, lengthOf, Indexed, verdictNumber, admittedNumber};
+ghost use Rattle.listing.specs.Listing.{Lists};
+ghost use Rattle.bench.specs.Timed.{agreed, online, outcomeNumber, answerNumber, wordOf, TimedMessage, wholeOf, lengthOf, Indexed, verdictNumber, admittedNumber};
 
 fn outcome_number(outcome: Outcome) -> u8
     ensures { λ r. ⌜ r ≡ outcomeNumber outcome ⌝ }
@@ -160,7 +161,7 @@ pub extern "C" fn bench_restart(book: &mut [u8; BOOK], notes: &[u8]) -> usize
 // The listing.
 #[no_mangle]
 pub extern "C" fn bench_listing(notes: &[u8], book: &mut [u8; BOOK], out: &mut [u8]) -> usize
-    ensures { λ r. ⌜ TimedListing (now (notes .entry)) r (now (book .entry)) (now (book .exit)) (now (out .entry)) (now (out .exit)) ⌝ }
+    ensures { λ r. ⌜ Lists (now (notes .entry)) (now (book .entry)) (now (out .entry)) r (now (book .exit)) (now (out .exit)) ⌝ }
 {
     listing::write_listing(notes, book, out)
 }
