@@ -1,6 +1,9 @@
 // Writes one message of each kind, and replies of two messages, each on a line after the count of the numbers it uses; byte 1 is shown as `|`.
+use answer::BAR;
 use answer::Fault;
 use answer::Id;
+use answer::LARGEST;
+use answer::LAST_TO_SEND;
 use answer::Setup;
 use wire::Reply;
 use wire::Say;
@@ -17,7 +20,7 @@ fn id(s: &[u8]) -> Id {
 }
 
 fn barred(b: u8) -> u8 {
-    if b == 1 { b'|' } else { b }
+    if b == BAR { b'|' } else { b }
 }
 
 // Turns each byte 1 into `|`.
@@ -43,26 +46,22 @@ fn show(r: Reply, o: u32, word: &[u8]) {
     io::write_all(1, b"\n");
 }
 
-fn fault(reason: u32, tag: u32) -> Fault {
-    Fault { reason, tag, at: 0 }
-}
-
 fn show_own() {
     show(Reply::One(Say::Logon), 1, b"");
     show(Reply::One(Say::Heartbeat), 2, b"");
     show(Reply::One(Say::Test), 10, b"");
-    show(Reply::One(Say::Logout), 4294967295, b"");
+    show(Reply::One(Say::Logout), LARGEST, b"");
 }
 
 fn show_answers() {
-    show(Reply::One(Say::Echo), 999999997, b"TEST7");
+    show(Reply::One(Say::Echo), LAST_TO_SEND, b"TEST7");
     show(
         Reply::One(Say::Echo),
         3,
         b"0123456789012345678901234567890123456789",
     );
     show(Reply::One(Say::Resend(5)), 9, b"");
-    show(Reply::One(Say::Reject(7, fault(11, 0))), 99, b"UCC");
+    show(Reply::One(Say::Reject(7, Fault::of(11, 0))), 99, b"UCC");
     show(Reply::One(Say::GapFill(1, 1000)), 1000, b"");
 }
 
@@ -70,7 +69,7 @@ fn main() {
     show_own();
     show_answers();
     show(
-        Reply::Two(Say::Reject(7, fault(5, 371)), Say::Logout),
+        Reply::Two(Say::Reject(7, Fault::of(5, 371)), Say::Logout),
         100,
         b"8",
     );
