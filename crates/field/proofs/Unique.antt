@@ -18,9 +18,6 @@ module _ (body : List ℕ) where
   index-into-once r r′ index index′ p q = (once (p .0) (q .0), once (p .1) (q .1))
 
   module _ (tag : ℕ) where
-    pub value-of-once : (r r′ : List ℕ) → r ≡ textAt tag (piecesOf body) → r′ ≡ textAt tag (piecesOf body) → r ≡ r′
-    value-of-once r r′ p q = once p q
-
     pub value-at-once : (index r r′ : List ℕ) → r ≡ lookIn body index .text tag → r′ ≡ lookIn body index .text tag → r ≡ r′
     value-at-once index r r′ p q = once p q
 
