@@ -4,7 +4,7 @@ ghost use mathlib.Core.Path.{_≡_};
 ghost use Prim.Native.Nat.{_+_, _≤_};
 ghost use lib.ListN.{length};
 ghost use Rattle.book.specs.Memory.{bookWidth};
-ghost use Rattle.note.specs.Notes.{Raises, Books, Acks, Clears, readNote};
+ghost use Rattle.note.specs.Notes.{Raises, Books, Acks, Clears, readNote, told as said};
 ghost use Rattle.note.specs.Kept.{lawful, empty};
 ghost use Rattle.restart.specs.Restart.{restart, countsOf, Restarts};
 ghost use Rattle.restart.specs.Steps.{keptIn, bare, raised, isNext, stepNote, Takes, Steps, Replays};
@@ -176,11 +176,12 @@ fn step_books(mem: &mut [u8; BOOK], m: Counts, e: u32, o: u32, slot: &[u8]) -> S
     }
 }
 
-// What the first note of s does.
-fn take_note(mem: &mut [u8; BOOK], m: Counts, s: &[u8]) -> Step
+// What the first note of s does, of which it is given what it says.
+fn take_note(mem: &mut [u8; BOOK], m: Counts, says: Read, s: &[u8]) -> Step
+    requires { ⌜ says ≡ said (readNote (now s)) ⌝ }
     ensures { λ r. ⌜ Steps (now (mem .entry)) (keptIn m (now (mem .entry))) (readNote (now (s .entry))) r (now (mem .exit)) ⌝ }
 {
-    match note::read_note(s) {
+    match says {
         Read::Raises(e, o) => step_raises(m, e, o),
         Read::Books(e, o) => step_books(mem, m, e, o, &note::slot_in_note(s)),
         Read::Acks(n) => step_acks(m, n),
@@ -199,10 +200,12 @@ fn replay(mem: &mut [u8; BOOK], notes: &[u8]) -> Restarted
     let mut at = 0;
     while at < notes.len() {
         let rest = &notes[at..];
-        match take_note(mem, m, rest) {
+        let first = note::read_note(rest);
+        let says = first.says;
+        match take_note(mem, m, says, rest) {
             Step::On(next) => {
                 m = next;
-                at += note::note_size(rest);
+                at += first.taken;
             }
             Step::End => {
                 return Restarted::Again(m, at);
