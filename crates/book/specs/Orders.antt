@@ -1,7 +1,7 @@
 -- The day's orders and fills, read from the slots themselves: "512 fills, 128 orders".
 use Prim.Native.Nat.{ℕ, _+_}
 use mathlib.Core.List.{List, [], _∷_, _++_}
-use mathlib.Core.Bool.{Bool, true, false, cond, _&&_, _||_, not}
+use mathlib.Core.Bool.{Bool, false, cond, _&&_, _||_, not}
 use Rattle.octet.specs.Bytes.{same}
 use Rattle.fill.specs.Slot.{Slot, isFill, orderOf}
 use Rattle.book.specs.Place.{fillsWith}

@@ -1,7 +1,6 @@
 // The day's fills, in memory that the caller lends whole, with their counts by value: what becomes of a fill among them, by one
 // walk over them, and one fill more.
 ghost use mathlib.Core.Path.{_≡_};
-ghost use mathlib.Core.Bool.{cond};
 ghost use Prim.Native.Nat.{_+_, _-_, _*_, _≤_, _<_, min};
 ghost use lib.ListN.{length};
 ghost use lib.Dec.{eqb};

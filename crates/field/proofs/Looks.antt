@@ -1,7 +1,7 @@
 -- The one law of the look-up: by its own index a body is looked at as by its pieces.
 --     look-law, look-by     for the index that a pass leaves
 --     first-of, missing-of     the first field of a tag, and whether there is one
-use mathlib.Core.Path.{_≡_, refl, ap, sym, _∙_}
+use mathlib.Core.Path.{_≡_, refl, ap, _∙_}
 use mathlib.Core.Bool.{Bool, true, false, cond}
 use mathlib.Core.List.{List, [], _∷_}
 use mathlib.Core.Option.{none, some}
@@ -16,7 +16,7 @@ use Rattle.octet.specs.Maybe as maybe
 use Rattle.field.specs.Pieces.{Pieces, piecesOf, valuesOf, firstOf, textAt, countOf}
 use Rattle.field.specs.Stands.{placeOf}
 use Rattle.field.specs.Index.{columnCount, columnOf, startIn, lenIn, indexOf, startAt, lenAt, countAt}
-use Rattle.field.specs.Look.{Look, lookOf, lookIn, first}
+use Rattle.field.specs.Look.{lookOf, lookIn, first}
 use Rattle.field.specs.declared.Place.{Place}
 use Rattle.field.specs.declared.Place.the-variants.{At, Missing}
 use Rattle.field.proofs.Cuts.{partBy, value-at}

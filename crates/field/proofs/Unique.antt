@@ -2,7 +2,7 @@
 use mathlib.Core.Path.{_≡_, sym, _∙_}
 use mathlib.Core.List.{List}
 use Prim.Native.Nat.{ℕ}
-use Rattle.field.specs.Pieces.{piecesOf, textAt, scanOf}
+use Rattle.field.specs.Pieces.{piecesOf, scanOf}
 use Rattle.field.specs.Index.{indexOf}
 use Rattle.field.specs.Look.{lookIn}
 use Rattle.field.specs.declared.Scan.{Scan}

@@ -12,7 +12,7 @@ use Prim.Native.Nat.{ℕ, zero, suc, _+_, _-_, _≤_, _<_, _^_}
 use native.Mathlib.Nat.{zero-add, pow-zero, div-one}
 use native.Mathlib.Omega.{arith}
 use lib.ListN.{length, getD, take, drop, set, replicate, replicate-append-replicate, length-append, length-take, length-replicate, List·getD-eq-default}
-use lib.Seq.{take-all, take-at, length-take-le}
+use lib.Seq.{take-all, take-at}
 use lib.Dec.{eqb}
 use borrow.Author.Tests.{eq-eqb, ne-eqb, eqb-true, le-leb}
 use Rattle.octet.specs.Bytes.{bytesOf, between, allIn, part, sumOf}
@@ -21,11 +21,11 @@ use Rattle.octet.specs.Splice.{splice}
 use Rattle.octet.specs.Padded.{fitsWidth, padded, textOf}
 use Rattle.octet.proofs.Cases.{le-or-lt, of-cond, cond-true}
 use Rattle.octet.proofs.Lists.{between-high, drop-step, drop-done, part-past, part-second, splice-in, splice-then, splice-whole, set-splice}
-use Rattle.octet.proofs.Places.{number-length, number-back}
-use Rattle.octet.proofs.Padded.{fits-width, padded-length, padded-back, padded-ok}
+use Rattle.octet.proofs.Places.{number-back}
+use Rattle.octet.proofs.Padded.{fits-width, padded-back, padded-ok}
 use Rattle.value.specs.Value.{isTime}
 use Rattle.value.proofs.Times.{time-is, time-filled}
-use Rattle.parts.specs.Parts.{Part, Text, Number, Raw, Value, textField, laid}
+use Rattle.parts.specs.Parts.{textField, laid}
 use Rattle.parts.specs.Relaid.{filled}
 use Rattle.parts.proofs.Relaying.{filled-same}
 use Rattle.parts.proofs.ReadBack.{AllSized, each, laid-length, laid-part, written, written-laid}

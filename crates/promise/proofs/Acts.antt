@@ -48,7 +48,7 @@ use Rattle.session.specs.declared.Verdict.{Verdict}
 use Rattle.session.specs.declared.Verdict.the-variants.{Settled, Report}
 use Rattle.restart.specs.Restart.{Outcome as Restarting, Again, Unlawful, restart}
 use Rattle.receiver.specs.State.{State, woken, Did, quiet, noting, sessionOf, withSession, keeping, offering, noteOfChange}
-use Rattle.receiver.specs.Calls.{owned, lost, settled, bookingNote, booked, Deed, withRoom, placedFill, ruled, deedAfter, deedOf, carriedOut, framed, foundTo, message, offerOf, offer, beginAgain, acknowledge, isEmpty, newDay, restarted}
+use Rattle.receiver.specs.Calls.{spoken, owned, lost, settled, bookingNote, booked, Deed, withRoom, placedFill, ruled, deedAfter, deedOf, carriedOut, framed, foundTo, message, offerOf, offer, beginAgain, acknowledge, isEmpty, newDay, restarted}
 use Rattle.receiver.specs.Receiver.{What, Own-call, Line-lost, Message, Offer, Begin-again, Acknowledge, New-day, Restart, Lent, refuse, shortReply, badGiven, writing, refusalOf, unrefused, unless-refused, does}
 use Rattle.receiver.specs.declared.Answer.{Answer}
 use Rattle.receiver.specs.declared.Answer.the-variants.{Done, Refused, More, Garbled, Framed, None, Acked, Already}
@@ -171,7 +171,7 @@ acts-session st w a t reply says f e g u k =
     }
 
 acts-owned : (setup : Setup) (st : State) (time : List ℕ) (own : Own) → st .kept .e ≤ nineDigits → st .kept .o ≤ lastToSend → Acts st (Own-call own time) (owned setup st time own)
-unfolding owned
+unfolding owned spoken
 acts-owned setup st time own a b =
     acts-session st (Own-call own time) Done (ownCall own (sessionOf st)) _ (λ e o. record { lent = refl; acks = refl; clears = refl })
     (own-numbers (sessionOf st) b own a)
@@ -194,7 +194,7 @@ some-same a b h = cc
 module _ (setup : Setup) (st : State) (time s : List ℕ) (safe : Safe (st .kept)) (o-most : st .kept .o ≤ lastToSend) where
   acts-settled : (len : ℕ) (ps : Pieces) (j : Judged) → Onward (sessionOf st) (j .next) → becameOf (j .outcome) .booked ≡ none
       → Acts st (Message time s) (settled setup st time len ps j)
-  unfolding settled
+  unfolding settled spoken
   acts-settled len ps j f u = acts-session st (Message time s) (Framed len (j .outcome)) (j .next) _ (λ e o. record { lent = refl; acks = refl; clears = refl }) f refl refl u refl
 
   acts-passed : (len : ℕ) (ps : Pieces) (o : Outcome) → st .kept .e < nineDigits → becameOf o .booked ≡ none

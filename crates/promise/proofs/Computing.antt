@@ -85,9 +85,9 @@ unfolding kinds.noteKind notes.noteBytes notes.slotAs notes.bookedBytes notes.re
 noting = tt
 
 unfoldable pub taking : Unit {0}
-unfolding calls.settled calls.booked calls.withRoom calls.placedFill calls.ruled calls.deedAfter calls.deedOf calls.carriedOut calls.framed calls.foundTo calls.message
+unfolding calls.spoken calls.settled calls.booked calls.withRoom calls.placedFill calls.ruled calls.deedAfter calls.deedOf calls.carriedOut calls.framed calls.foundTo calls.message
 taking = tt
 
 unfoldable pub calling : Unit {0}
-unfolding taking calls.owned calls.offer calls.acknowledge calls.restarted state.noteOfChange receiver.badGiven receiver.writing receiver.refusalOf receiver.unrefused receiver.does
+unfolding taking calls.spoken calls.owned calls.offer calls.acknowledge calls.restarted state.noteOfChange receiver.badGiven receiver.writing receiver.refusalOf receiver.unrefused receiver.does
 calling = tt

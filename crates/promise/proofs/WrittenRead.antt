@@ -52,7 +52,7 @@ use Rattle.session.specs.declared.Verdict.the-variants as verdict
 use Rattle.session.specs.declared.Verdict.the-variants.{Settled}
 use Rattle.session.proofs.Turns.{judge-report}
 use Rattle.receiver.specs.State.{State, Did, quiet, sessionOf}
-use Rattle.receiver.specs.Calls.{owned, lost, settled, booked, Deed, Say as Saying, withRoom, placedFill, ruled, deedAfter, deedOf, carriedOut, framed, foundTo, message, offerOf, offer, beginAgain, acknowledge, isEmpty, newDay, restarted}
+use Rattle.receiver.specs.Calls.{spoken, owned, lost, settled, booked, Deed, Say as Saying, withRoom, placedFill, ruled, deedAfter, deedOf, carriedOut, framed, foundTo, message, offerOf, offer, beginAgain, acknowledge, isEmpty, newDay, restarted}
 use Rattle.receiver.specs.Receiver.{What, Own-call, Line-lost, Message, Offer, Begin-again, Acknowledge, New-day, Restart, Lent, writing, refusalOf, unrefused, unless-refused, does}
 use Rattle.receiver.specs.declared.Answer.{Answer}
 use Rattle.receiver.specs.declared.Answer.the-variants as answer
@@ -216,7 +216,7 @@ module _ (setup : Setup) (st : State) (time s : List ℕ) (ids : Agreed setup) (
     Good d = Replied (found.Framed len) d
 
     settled-replied : (j : Judged) → Speaks ps j → Good (settled setup st time len ps j)
-    unfolding settled
+    unfolding settled spoken
     settled-replied j x =
         replies-with setup (st .kept .o) time (wordIn s (found.Framed len)) (settled setup st time len ps j) (j .reply) ids stamp o-small refl (x .said) (sym (ap (λ (b : Became). b .rejected) (x .became)))
 
@@ -310,7 +310,7 @@ module _ (setup : Setup) (st : State) (b : Lent) (ids : Agreed setup) (sound : S
   e-fits = let x = sound .expected in omega arith
 
   own-said : (own : Own) (time : List ℕ) → writing setup b time (mayCall own (st .phase)) (st .kept .o) ≡ none → Fine (Own-call own time) (owned setup st time own)
-  unfolding owned
+  unfolding owned spoken
   own-said own time h =
       let stamp = time-clear time (may-write setup b time (mayCall own (st .phase)) (st .kept .o) h .0) in
       let x = own-sayable own in

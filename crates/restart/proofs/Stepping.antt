@@ -1,20 +1,16 @@
 -- Laws of one note as the code takes it: when a note is lawful, test by test; the counts and the memory after it are what is kept after it; and
 -- what the step says of the whole restart.
-use Prim.Native.Nat.{ℕ, _+_, _-_, _*_, _≤_, _<_, min}
+use Prim.Native.Nat.{ℕ, _+_, _-_, _≤_, _<_}
 use mathlib.Core.Path.{_≡_, refl, sym, ap, ap₂, _∙_, subst}
 use mathlib.Core.Logic.{⊎-elim}
 use mathlib.Core.List.{List, [], _∷_, _++_}
 use mathlib.Core.Bool.{Bool, true, false, cond, _&&_, _||_}
-use native.Mathlib.Nat.{min-eq-left}
 use native.Mathlib.Omega.{arith}
-use borrow.Author.Tests.{ltb-true}
-use lib.ListN.{length, take, drop, length-append, length-drop}
+use lib.ListN.{length, drop, length-append, length-drop}
 use lib.Seq.{drop-drop}
 use lib.Dec.{leb, ltb, eqb}
-use Rattle.octet.specs.Bytes.{part, joined}
-use Rattle.octet.specs.Splice.{splice}
-use Rattle.octet.proofs.Cases.{cond-true, cond-false, of-cond, or-cases, and-right, and-no-left, bool-case}
-use Rattle.octet.proofs.Lists.{drop-done, splice-in}
+use Rattle.octet.proofs.Cases.{cond-true, cond-false, of-cond, and-no-left, bool-case}
+use Rattle.octet.proofs.Lists.{drop-done}
 use Rattle.answer.specs.Numbers.{largest, nineDigits}
 use Rattle.fill.specs.Slot.{Slot, slotLawful}
 use Rattle.book.specs.Memory.{mostSlots, bookWidth, slotsIn, appended, holding}

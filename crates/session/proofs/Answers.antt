@@ -6,7 +6,7 @@ use mathlib.Core.Option.{Option, none, some}
 use mathlib.Core.Bool.{Bool, true, false, cond}
 use Prim.Native.Nat.{ℕ, _≤_, _<_}
 use native.Mathlib.Omega.{arith}
-use lib.Dec.{leb, eqb}
+use lib.Dec.{leb}
 use borrow.Author.Tests.{eq-eqb, ne-eqb, lt-ltb, le-ltb, le-leb, lt-leb}
 use Rattle.octet.proofs.Cases.{and-no-right}
 use Rattle.value.specs.Readers.{numberRead}
@@ -25,7 +25,7 @@ use Rattle.wire.specs.declared.Reply.{Reply}
 use Rattle.wire.specs.declared.Reply.the-variants.{Nothing}
 use Rattle.session.specs.Session.{judged, asking}
 use Rattle.session.specs.Reading.{Facts, numberIf, numbered}
-use Rattle.session.specs.Judging.{ended, rejectedEnded, welcomed, logon, step3, resetMode, rejectedIf, gapFill, effect, inTurn, below, due, answered, gapReply, gap, step4, byPhase, step2, step1, judgedBy}
+use Rattle.session.specs.Judging.{ended, rejectedEnded, welcomed, step3, resetMode, rejectedIf, gapFill, effect, inTurn, below, due, answered, gapReply, gap, step4, byPhase, step2, step1, judgedBy}
 use Rattle.session.specs.declared.Session.{Session}
 use Rattle.session.specs.declared.Judged.{Judged}
 use Rattle.session.specs.declared.Verdict.{Verdict}

@@ -1,6 +1,6 @@
 -- No second answer satisfies a promise of this crate: each is one equation.
 use mathlib.Core.Path.{_≡_, sym, _∙_}
-use Rattle.tally.specs.Tally.{tallied, oneBooked, oneAlready, oneRejected, oneGarbled, none-yet}
+use Rattle.tally.specs.Tally.{tallied, none-yet}
 use Rattle.tally.specs.declared.Tally.{Tally}
 use Rattle.answer.specs.declared.Outcome.{Outcome}
 

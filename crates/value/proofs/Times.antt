@@ -11,15 +11,15 @@ use mathlib.Core.Option.{Option, none, some}
 use mathlib.Core.Bool.{true, false, cond}
 use Prim.Native.Nat.{ℕ, _+_, _-_, _*_, _≤_, _<_}
 use native.Mathlib.Omega.{arith}
-use lib.ListN.{length, length-append, drop, getD}
+use lib.ListN.{length, length-append, getD}
 use lib.Dec.{eqb}
 use borrow.Author.Tests.{eqb-true, eq-eqb}
-use Rattle.octet.specs.Bytes.{bytesOf, allIn, part}
+use Rattle.octet.specs.Bytes.{bytesOf, part}
 use Rattle.octet.specs.Maybe.{isNone}
 use Rattle.octet.proofs.Cases.{not-true-false, of-cond, contrary, cond-true, and-both, and-make, or-cases}
 use Rattle.octet.proofs.Lists.{part-first, drop-step}
 use Rattle.text.specs.Decimal.{digits}
-use Rattle.value.specs.Value.{wellFormed, likeRun, timePattern, timeLong, badTime, isDay, isClock, numberOn, timeFits, isTime}
+use Rattle.value.specs.Value.{wellFormed, likeRun, timePattern, timeLong, badTime, isDay, numberOn, timeFits, isTime}
 use Rattle.value.specs.Readers.{checked, timeChecked}
 use Rattle.value.specs.declared.Check.{Check}
 use Rattle.value.specs.declared.Check.the-variants.{Good, BadForm, OutOfRange}

@@ -4,7 +4,6 @@
 --     replied-full, replied-inside     what a caller has: the reply where the buffer has 512 bytes, and an end inside the buffer
 use mathlib.Core.Path.{_≡_, refl, sym, ap, _∙_}
 use mathlib.Core.Logic.{⊎-elim}
-use mathlib.Core.Bool.{cond}
 use mathlib.Core.List.{List, [], _++_}
 use Prim.Native.Nat.{ℕ, _+_, _≤_, _<_}
 use native.Mathlib.Nat.{zero-add}
@@ -15,7 +14,7 @@ use lib.Dec.{ltb}
 use Rattle.octet.specs.Splice.{splice, fitsAt}
 use Rattle.octet.proofs.Cases.{cond-true, le-or-lt}
 use Rattle.octet.proofs.Lists.{fits-true, splice-length, splice-then, splice-nil}
-use Rattle.wire.specs.Sending.{longest, replyRoom, Sent, Replied}
+use Rattle.wire.specs.Sending.{replyRoom, Sent, Replied}
 
 -- a message where there is room for it
 pub sent-fits : {old new m : List ℕ} {at r : ℕ} → Sent old new at r m → at + length m ≤ length old → r ≡ at + length m

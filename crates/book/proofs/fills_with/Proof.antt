@@ -1,7 +1,6 @@
 use mathlib.Core.Path.{sym, _∙_}
 use native.Mathlib.Omega.{arith}
 use denote.Ref.{now}
-use borrow.Author.Tests.{not-false}
 use Rattle.book.proofs.Placing.{fills-more, fills-same}
 use borrow.Author.Needs.{needs}
 use Rattle.book.proofs.fills_with.Statement.{statement}

@@ -1,6 +1,5 @@
 use Rattle.fill.specs.Slot.{slotWidth}
 use mathlib.Core.Path.{sym, ap, _∙_}
-use mathlib.Core.List.{List}
 use native.Mathlib.Omega.{arith}
 use denote.Ref.{now}
 use Prim.Native.Nat.{ℕ, _*_}

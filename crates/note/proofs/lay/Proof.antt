@@ -2,7 +2,6 @@
 use mathlib.Core.Path.{sym, ap, ap₂, _∙_}
 use mathlib.Core.List.{List}
 use Prim.Native.Nat.{ℕ}
-use native.Mathlib.Omega.{arith}
 use denote.Ref.{now}
 use Rattle.octet.specs.Splice.{splice}
 use Rattle.parts.specs.Relaid.{relaid}

@@ -2,16 +2,14 @@
 use borrow.Author.Needs.{needs}
 use mathlib.Core.Path.{_≡_, sym, ap, _∙_}
 use mathlib.Core.List.{List}
-use Prim.Native.Nat.{ℕ, _+_, _≤_}
+use Prim.Native.Nat.{ℕ}
 use native.Mathlib.Omega.{arith}
 use denote.Ref.{now}
 use lib.ListN.{take, drop}
 use lib.Seq.{take-take}
-use Rattle.octet.specs.Bytes.{part}
 use Rattle.octet.specs.Places.{bigEndian}
 use Rattle.octet.proofs.Lists.{part-take, length-part}
-use Rattle.note.specs.Notes.{numbersIn, fourAt}
-use Rattle.note.specs.declared.Numbers.{Numbers}
+use Rattle.note.specs.Notes.{fourAt}
 use Rattle.note.proofs.numbers_in.Statement.{statement}
 use Rattle.note.proofs.numbers_in.Tie as tie
 

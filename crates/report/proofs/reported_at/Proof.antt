@@ -1,6 +1,6 @@
 -- The rules, and after them whether 442 is there.
 use borrow.Author.Needs.{needs}
-use mathlib.Core.Path.{_≡_, sym, ap, _∙_}
+use mathlib.Core.Path.{_≡_, sym}
 use borrow.Author.Tests.{eq-eqb, ne-eqb}
 use Rattle.field.specs.Look.{lookIn}
 use Rattle.table.specs.Steps.{found}

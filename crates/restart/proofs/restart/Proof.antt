@@ -3,7 +3,6 @@ use borrow.Author.Needs.{needs}
 use mathlib.Core.Path.{sym, ap, _∙_}
 use Prim.Native.Nat.{ℕ, _-_}
 use lib.ListN.{length}
-use native.Mathlib.Omega.{arith}
 use denote.Ref.{now}
 use Rattle.book.specs.Memory.{slotsIn, holding}
 use Rattle.restart.specs.Restart.{restart}

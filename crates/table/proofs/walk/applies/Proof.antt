@@ -1,5 +1,4 @@
 -- `table::walk::applies` meets its contract: each row applies always.
-use borrow.Author.Needs.{needs}
 use mathlib.Core.Path.{_≡_, refl}
 use mathlib.Core.Bool.{true}
 use Rattle.table.specs.declared.Where.{Where}

@@ -1,12 +1,9 @@
 -- `table::walk::walk` meets its contract. The loop's invariant: the walk of the whole table is the walk of the rows from place i on.
 use borrow.Author.Needs.{needs}
 use mathlib.Core.Path.{_≡_, refl, sym, _∙_}
-use mathlib.Core.List.{List}
 use Prim.Native.Nat.{_+_, _-_, _≤_, _<_}
 use native.Mathlib.Omega.{arith}
 use lib.ListN.{length, drop}
-use Rattle.answer.specs.declared.Kind.{Kind}
-use Rattle.table.specs.declared.Row.{Row}
 use Rattle.octet.specs.Maybe.{orElse}
 use Rattle.table.specs.declared.Cell.the-variants.{Here}
 use Rattle.field.specs.Look.{lookIn}
