@@ -75,9 +75,6 @@ rejected s n f = rejectedTo (raised s) n f
 unfoldable pub rejectedIf : Bool → Session → ℕ → Fault → Judged
 rejectedIf reset s n f = cond reset (rejectedTo s n f) (rejected s n f)
 
-abbrev pub rejectedBy : Session → ℕ → Facts → Fault → Judged
-rejectedBy s n m f = rejectedIf (resetMode m) s n f
-
 -- nothing is written, and E rises by 1
 abbrev pub passed : Outcome → Session → Judged
 passed outcome s = judged outcome Nothing (raised s)
@@ -116,7 +113,7 @@ effect s n m kind.Other = Settled (heard s)
 effect s n m kind.Unlisted = Settled (heard s)
 
 unfoldable pub inTurn : Session → ℕ → Facts → Option Fault → Verdict
-inTurn s n m (some f) = Settled (rejectedBy s n m f)
+inTurn s n m (some f) = Settled (rejectedIf (resetMode m) s n f)
 inTurn s n m none = effect s n m (m .kind)
 
 -- ---- step 4: in 2 or 4
