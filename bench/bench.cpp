@@ -27,13 +27,13 @@ size_t bench_restart(uint8_t *book, const uint8_t *notes, size_t notes_len);
 size_t bench_listing(const uint8_t *notes, size_t notes_len, uint8_t *book, uint8_t *out, size_t out_len);
 size_t bench_find(const uint8_t *bytes, size_t bytes_len);
 uint8_t bench_index(const uint8_t *body, size_t body_len, size_t *index);
-uint8_t bench_judge(const uint8_t *ours, size_t n, const uint8_t *theirs, size_t k, uint32_t e, const uint8_t *body, size_t body_len);
+uint32_t bench_judge(const uint8_t *ours, size_t n, const uint8_t *theirs, size_t k, uint32_t e, const uint8_t *body, size_t body_len);
 uint8_t bench_admit(const uint8_t *book, size_t last, uint32_t fills, uint32_t orders, const uint8_t *slot, size_t slot_len);
 }
 
-// what a message came to, what the session says of a report, and what the book says of a fill, as crates/bench numbers them
-enum Became { REJECTED = 2, HEARD = 7, ECHOED = 8, ALREADY = 12, BOOKED = 13 };
-enum Said { TO_BE_BOOKED = 14 };
+// what a message came to, what the session says of a report, and what the book says of a fill, as the receiver numbers them
+enum Became { REJECTED = 2, HEARD = 7, ECHOED = 8, ALREADY = 11, BOOKED = 12 };
+enum Said { TO_BE_BOOKED = 13 };
 enum Admitted { NEW = 4 };
 
 const int FILLS = 512;

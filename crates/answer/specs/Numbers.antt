@@ -1,12 +1,16 @@
--- The paper's numbers and values for phases, refusals and outcomes.
+-- "When an answer is an enum, a definition sets out this paper's number and values for each of its cases": of phases, refusals and outcomes; and the numbers that the paper says
+-- more than once. Of an answer of the receiver, and of a reader, they stand beside these enums, and cite what is here.
 use Prim.Native.Nat.{ℕ, _+_, min}
-use mathlib.Core.Bool.{Bool, _||_}
+use mathlib.Core.List.{List, [], _∷_}
+use mathlib.Core.Bool.{Bool, cond, _||_}
 use lib.Dec.{eqb}
 use Rattle.answer.specs.declared.Phase.{Phase}
 use Rattle.answer.specs.declared.Phase.the-variants as phase
 use Rattle.answer.specs.declared.Kind.{Kind}
 use Rattle.answer.specs.declared.Kind.the-variants as kind
 use Rattle.answer.specs.declared.Fault.{Fault}
+use Rattle.answer.specs.declared.Outcome.{Outcome}
+use Rattle.answer.specs.declared.Outcome.the-variants as outcome
 use Rattle.answer.specs.declared.Refusal.{Refusal}
 use Rattle.answer.specs.declared.Refusal.the-variants as refusal
 
@@ -33,6 +37,78 @@ refusalNumber refusal.NotOffered = 6
 refusalNumber refusal.StillWaiting = 7
 refusalNumber (refusal.Unlawful place) = 8
 refusalNumber refusal.BadId = 9
+
+-- "with its first byte's place, from 0"
+abbrev pub refusalValues : Refusal → List ℕ
+refusalValues refusal.ShortBuffer = []
+refusalValues refusal.BadTime = []
+refusalValues refusal.WrongPhase = []
+refusalValues refusal.NumbersUsed = []
+refusalValues refusal.NoRoom = []
+refusalValues refusal.NotOffered = []
+refusalValues refusal.StillWaiting = []
+refusalValues (refusal.Unlawful place) = place ∷ []
+refusalValues refusal.BadId = []
+
+-- What became of a framed message. The paper has a word for each and no number: they are numbered here, from 1, in the order in which a message comes to them. "A report with 442
+-- is set aside: heard, not booked"
+abbrev pub outcomeNumber : Outcome → ℕ
+outcomeNumber outcome.Ended = 1
+outcomeNumber (outcome.Rejected f) = 2
+outcomeNumber (outcome.RejectedEnded f) = 3
+outcomeNumber outcome.Dropped = 4
+outcomeNumber outcome.Gap = 5
+outcomeNumber outcome.In = 6
+outcomeNumber outcome.Heard = 7
+outcomeNumber outcome.Echoed = 8
+outcomeNumber outcome.Filled = 9
+outcomeNumber (outcome.Moved n) = 10
+outcomeNumber outcome.Aside = 7
+outcomeNumber outcome.Already = 11
+outcomeNumber (outcome.Booked n stepped) = 12
+
+-- of a Reject the reason and the tag that it names; "answers with 36 less the old E"; of a fill its number, and 1 where it is in step
+abbrev pub outcomeValues : Outcome → List ℕ
+outcomeValues outcome.Ended = []
+outcomeValues (outcome.Rejected f) = f .reason ∷ f .tag ∷ []
+outcomeValues (outcome.RejectedEnded f) = f .reason ∷ f .tag ∷ []
+outcomeValues outcome.Dropped = []
+outcomeValues outcome.Gap = []
+outcomeValues outcome.In = []
+outcomeValues outcome.Heard = []
+outcomeValues outcome.Echoed = []
+outcomeValues outcome.Filled = []
+outcomeValues (outcome.Moved n) = n ∷ []
+outcomeValues outcome.Aside = []
+outcomeValues outcome.Already = []
+outcomeValues (outcome.Booked n stepped) = n ∷ cond stepped 1 0 ∷ []
+
+-- ---- a Reject's reasons: the numbers of 373
+
+-- "First malformed field: Reject 0; without a value: Reject 4"
+abbrev pub malformed : ℕ
+malformed = 0
+
+abbrev pub valueless : ℕ
+valueless = 4
+
+-- "missing 1, twice 5, bad form 6, out of range 5"; what the rules and the book reject is 5 too
+abbrev pub missing : ℕ
+missing = 1
+
+abbrev pub wrongValue : ℕ
+wrongValue = 5
+
+abbrev pub wrongForm : ℕ
+wrongForm = 6
+
+-- "Reject 9 naming that tag"
+abbrev pub wrongId : ℕ
+wrongId = 9
+
+-- "Type not listed, or A in phase 2 or 4: Reject 11"
+abbrev pub wrongType : ℕ
+wrongType = 11
 
 -- a fault that is none of form
 abbrev pub fault : ℕ → ℕ → Fault

@@ -1,9 +1,10 @@
-// What several crates are told or answer with: set-up, phase, type of message, fault, outcome, refusal; and the numbers that the paper says more
-// than once. The paper's numbers for the cases are in specs/.
+// What several crates are told or answer with: set-up, phase, type of message, fault, outcome, refusal, with the paper's number for each case; and
+// the numbers that the paper says more than once.
 pub mod tags;
+pub mod reasons;
 
 ghost use mathlib.Core.Path.{_≡_};
-ghost use Rattle.answer.specs.Numbers.{fault, counted};
+ghost use Rattle.answer.specs.Numbers.{fault, counted, phaseNumber, refusalNumber, outcomeNumber};
 
 // "`|` below is byte 1".
 pub const BAR: u8 = 1;
@@ -55,6 +56,21 @@ pub enum Phase {
     In,
     Ended,
     Closing,
+}
+
+impl Phase {
+    // "Phases: 0 out, 1 logon sent, 2 in, 3 ended, 4 closing".
+    pub fn number(self) -> u32
+        ensures { λ r. ⌜ r ≡ phaseNumber self ⌝ }
+    {
+        match self {
+            Phase::Out => 0,
+            Phase::Sent => 1,
+            Phase::In => 2,
+            Phase::Ended => 3,
+            Phase::Closing => 4,
+        }
+    }
 }
 
 // What a type of message is: A, 0, 1, 2, 4, 5, 8; 3, j and UCC; any other.
@@ -110,6 +126,29 @@ pub enum Outcome {
     Booked(u32, bool),
 }
 
+impl Outcome {
+    // The number of an outcome; one that is set aside is heard.
+    pub fn number(self) -> u32
+        ensures { λ r. ⌜ r ≡ outcomeNumber self ⌝ }
+    {
+        match self {
+            Outcome::Ended => 1,
+            Outcome::Rejected(_) => 2,
+            Outcome::RejectedEnded(_) => 3,
+            Outcome::Dropped => 4,
+            Outcome::Gap => 5,
+            Outcome::In => 6,
+            Outcome::Heard => 7,
+            Outcome::Echoed => 8,
+            Outcome::Filled => 9,
+            Outcome::Moved(_) => 10,
+            Outcome::Aside => 7,
+            Outcome::Already => 11,
+            Outcome::Booked(_, _) => 12,
+        }
+    }
+}
+
 // Why a call was refused.
 pub enum Refusal {
     ShortBuffer,
@@ -121,4 +160,23 @@ pub enum Refusal {
     StillWaiting,
     Unlawful(usize),
     BadId,
+}
+
+impl Refusal {
+    // The paper's number: the column No. of its table.
+    pub fn number(self) -> u32
+        ensures { λ r. ⌜ r ≡ refusalNumber self ⌝ }
+    {
+        match self {
+            Refusal::ShortBuffer => 1,
+            Refusal::BadTime => 2,
+            Refusal::WrongPhase => 3,
+            Refusal::NumbersUsed => 4,
+            Refusal::NoRoom => 5,
+            Refusal::NotOffered => 6,
+            Refusal::StillWaiting => 7,
+            Refusal::Unlawful(_) => 8,
+            Refusal::BadId => 9,
+        }
+    }
 }

@@ -6,11 +6,11 @@ use Rattle.octet.proofs.Unique.{Writes, one-writing}
 use Rattle.listing.specs.Listing.{Lists}
 use Rattle.listing.proofs.Unique.{write-listing-one}
 use Rattle.receiver.specs.State.{Did}
-use Rattle.restart.specs.Restart.{restart, told, bookAfter}
+use Rattle.restart.specs.Restart.{restart, told, wholeIn, bookAfter}
 use Rattle.frame.specs.Finding.{foundIn}
 use Rattle.session.specs.declared.Verdict.{Verdict}
 use Rattle.book.specs.declared.Admitted.{Admitted}
-use Rattle.bench.specs.Timed.{Timed, wholeOf, lengthOf, Indexed, verdictNumber, admittedNumber}
+use Rattle.bench.specs.Timed.{Timed, lengthOf, Indexed, verdictNumber, admittedNumber}
 
 -- r is the number; the book, the reply and the note at entry and at exit
 pub message-one : (d : Did) {r r′ : ℕ} {book book₁ book₂ reply reply₁ reply₂ note note₁ note₂ : List ℕ}
@@ -18,8 +18,8 @@ pub message-one : (d : Did) {r r′ : ℕ} {book book₁ book₂ reply reply₁ 
     → (r ≡ r′) × (book₁ ≡ book₂) × (reply₁ ≡ reply₂) × (note₁ ≡ note₂)
 message-one d p q = (p .told ∙ sym (q .told), p .booked ∙ sym (q .booked), p .replied ∙ sym (q .replied), p .noted ∙ sym (q .noted))
 
-pub restart-one : (book notes : List ℕ) {r r′ : ℕ} {b b′ : List ℕ} → Writes (wholeOf (told (restart notes))) (bookAfter book (restart notes)) r b
-    → Writes (wholeOf (told (restart notes))) (bookAfter book (restart notes)) r′ b′ → (r ≡ r′) × (b ≡ b′)
+pub restart-one : (book notes : List ℕ) {r r′ : ℕ} {b b′ : List ℕ} → Writes (wholeIn (told (restart notes))) (bookAfter book (restart notes)) r b
+    → Writes (wholeIn (told (restart notes))) (bookAfter book (restart notes)) r′ b′ → (r ≡ r′) × (b ≡ b′)
 restart-one book notes p q = one-writing p q
 
 -- the answer, the bytes written and the lent book are those of the listing's own promise

@@ -2,11 +2,12 @@
 use Prim.Native.Nat.{ℕ, _+_, _*_, _%_}
 use mathlib.Core.Path.{_≡_}
 use mathlib.Core.List.{List}
+use mathlib.Core.Option.{Option, none, some}
 use lib.ListN.{length}
 use Rattle.answer.specs.declared.Setup.{Setup}
 use Rattle.answer.specs.declared.Phase.the-variants.{In}
+use Rattle.answer.specs.Numbers.{outcomeNumber}
 use Rattle.answer.specs.declared.Outcome.{Outcome}
-use Rattle.answer.specs.declared.Outcome.the-variants as outcome
 use Rattle.field.specs.Pieces.{piecesOf, scanOf}
 use Rattle.field.specs.Index.{indexOf}
 use Rattle.field.specs.declared.Scan.{Scan}
@@ -17,15 +18,13 @@ use Rattle.session.specs.declared.Verdict.{Verdict}
 use Rattle.session.specs.declared.Verdict.the-variants.{Settled, Report}
 use Rattle.book.specs.declared.Admitted.{Admitted}
 use Rattle.book.specs.declared.Admitted.the-variants as admitted
-use Rattle.restart.specs.declared.Restarted.{Restarted}
-use Rattle.restart.specs.declared.Restarted.the-variants.{Again, Unlawful}
 use Rattle.receiver.specs.Receiver.{does, Message}
 use Rattle.receiver.specs.Steps.{lentTo}
 use Rattle.receiver.specs.State.{Did, seen, toldOf, bookAfter, replyAfter, noteAfter}
 use Rattle.receiver.specs.declared.State.{State as Stored}
 use Rattle.receiver.specs.declared.Told.{Told}
+use Rattle.receiver.specs.Answers.{tellsOf}
 use Rattle.receiver.specs.declared.Answer.{Answer}
-use Rattle.receiver.specs.declared.Answer.the-variants as answer
 
 -- the agreed IDs: 16 bytes each, of which so many count
 abbrev pub agreed : List ℕ → ℕ → List ℕ → ℕ → Setup
@@ -38,38 +37,17 @@ online e fills orders = record {
   marks = record { last = fills; fills = fills; orders = orders; acked = 0; offered = 0 };
 }
 
--- what became of a framed message: the place of its outcome among all of them, from 1
-abbrev pub outcomeNumber : Outcome → ℕ
-outcomeNumber outcome.Ended = 1
-outcomeNumber (outcome.Rejected f) = 2
-outcomeNumber (outcome.RejectedEnded f) = 3
-outcomeNumber outcome.Dropped = 4
-outcomeNumber outcome.Gap = 5
-outcomeNumber outcome.In = 6
-outcomeNumber outcome.Heard = 7
-outcomeNumber outcome.Echoed = 8
-outcomeNumber outcome.Filled = 9
-outcomeNumber (outcome.Moved n) = 10
-outcomeNumber outcome.Aside = 11
-outcomeNumber outcome.Already = 12
-outcomeNumber (outcome.Booked n step) = 13
+-- the number of what became of a framed message; 0 for every other answer
+abbrev pub numberIf : Option Outcome → ℕ
+numberIf none = 0
+numberIf (some o) = outcomeNumber o
 
--- 0 for every other answer
-abbrev pub answerNumber : Answer → ℕ
-answerNumber (answer.Framed len x) = outcomeNumber x
-answerNumber answer.Done = 0
-answerNumber (answer.Refused why) = 0
-answerNumber answer.More = 0
-answerNumber (answer.Garbled skip) = 0
-answerNumber answer.Offered = 0
-answerNumber answer.None = 0
-answerNumber answer.Acked = 0
-answerNumber answer.Already = 0
-answerNumber (answer.Restarted whole) = 0
+abbrev pub becameNumber : Answer → ℕ
+becameNumber a = numberIf (tellsOf a .became)
 
 -- that number, the length of the reply and that of the note, in one word: each length takes 12 bits of it
 unfoldable pub wordOf : Told → ℕ
-wordOf t = (answerNumber (t .answer) * 4096 + t .reply % 4096) * 4096 + t .note % 4096
+wordOf t = (becameNumber (t .answer) * 4096 + t .reply % 4096) * 4096 + t .note % 4096
 
 -- such a call tells r of what it does, d, and leaves what it is lent so
 pub record Timed (d : Did) (r : ℕ) (book book′ reply reply′ note note′ : List ℕ) : Type 0 where
@@ -82,11 +60,6 @@ pub record Timed (d : Did) (r : ℕ) (book book′ reply reply′ note note′ :
 abbrev pub TimedMessage : Setup → Stored → List ℕ → List ℕ → ℕ → List ℕ → List ℕ → List ℕ → List ℕ → List ℕ → List ℕ → Type 0
 TimedMessage setup st time bytes r book book′ reply reply′ note note′ =
     Timed (does setup (seen st book) (lentTo (length reply) (length note)) (Message time bytes)) r book book′ reply reply′ note note′
-
--- how many bytes of the notes are whole; 0 where one is unlawful
-abbrev pub wholeOf : Restarted → ℕ
-wholeOf (Again counts whole) = whole
-wholeOf (Unlawful at) = 0
 
 -- the length of the message at the front, 0 where there is none
 abbrev pub lengthOf : Found → ℕ
@@ -105,10 +78,10 @@ pub record Indexed (body : List ℕ) (r : ℕ) (index : List ℕ) : Type 0 where
   pub fault : r ≡ scanNumber (scanOf (piecesOf body))
   pub listed : index ≡ indexOf body
 
--- what the session says of a message: the number of what became of it, or 14 where it is a report about which the book is to be asked
+-- what the session says of a message: the number of what became of it, or 13 where it is a report about which the book is to be asked
 abbrev pub verdictNumber : Verdict → ℕ
 verdictNumber (Settled j) = outcomeNumber (j .outcome)
-verdictNumber (Report n) = 14
+verdictNumber (Report n) = 13
 
 -- what becomes of a fill among the day's: the place of the answer among all of them, from 1
 abbrev pub admittedNumber : Admitted → ℕ

@@ -1,7 +1,6 @@
 // What bench/run times, for a program in C to call: the message call of a receiver that is on, a restart, the listing, and the stages of a message call that
 // can be timed by themselves. The numbers that C is told are enough to see that the work was done.
 use answer::Id;
-use answer::Outcome;
 use answer::Phase;
 use answer::Setup;
 use book::Admitted;
@@ -24,35 +23,16 @@ ghost use Rattle.session.specs.Judging.{judge};
 ghost use Rattle.book.specs.Memory.{slotsIn};
 ghost use Rattle.book.specs.Admitting.{admitOf};
 ghost use Rattle.frame.specs.Finding.{foundIn};
-ghost use Rattle.restart.specs.Restart.{restart, told, bookAfter};
+ghost use Rattle.restart.specs.Restart.{restart, told, wholeIn, bookAfter};
 ghost use Rattle.listing.specs.Listing.{Lists};
-ghost use Rattle.bench.specs.Timed.{agreed, online, outcomeNumber, answerNumber, wordOf, TimedMessage, wholeOf, lengthOf, Indexed, verdictNumber, admittedNumber};
+ghost use Rattle.bench.specs.Timed.{agreed, online, becameNumber, wordOf, TimedMessage, lengthOf, Indexed, verdictNumber, admittedNumber};
 
-fn outcome_number(outcome: Outcome) -> u8
-    ensures { λ r. ⌜ r ≡ outcomeNumber outcome ⌝ }
-{
-    match outcome {
-        Outcome::Ended => 1,
-        Outcome::Rejected(_) => 2,
-        Outcome::RejectedEnded(_) => 3,
-        Outcome::Dropped => 4,
-        Outcome::Gap => 5,
-        Outcome::In => 6,
-        Outcome::Heard => 7,
-        Outcome::Echoed => 8,
-        Outcome::Filled => 9,
-        Outcome::Moved(_) => 10,
-        Outcome::Aside => 11,
-        Outcome::Already => 12,
-        Outcome::Booked(_, _) => 13,
-    }
-}
-
-fn answer_number(answer: Answer) -> u8
-    ensures { λ r. ⌜ r ≡ answerNumber answer ⌝ }
+// The number of what became of a framed message, 0 for every other answer.
+fn became_number(answer: Answer) -> u32
+    ensures { λ r. ⌜ r ≡ becameNumber answer ⌝ }
 {
     match answer {
-        Answer::Framed(_, outcome) => outcome_number(outcome),
+        Answer::Framed(_, outcome) => outcome.number(),
         Answer::Done => 0,
         Answer::Refused(_) => 0,
         Answer::More => 0,
@@ -75,7 +55,7 @@ fn word_of(told: Told) -> u64
     let answer = told.answer;
     let reply = (told.reply % LENGTHS) as u64;
     let note = (told.note % LENGTHS) as u64;
-    (answer_number(answer) as u64 * 4096 + reply) * 4096 + note
+    (became_number(answer) as u64 * 4096 + reply) * 4096 + note
 }
 
 fn agreed(ours: [u8; 16], n: usize, theirs: [u8; 16], k: usize) -> Setup
@@ -150,7 +130,7 @@ pub extern "C" fn bench_message(
 // A restart into the lent book.
 #[no_mangle]
 pub extern "C" fn bench_restart(book: &mut [u8; BOOK], notes: &[u8]) -> usize
-    ensures { λ r. ⌜ (r ≡ wholeOf (told (restart (now (notes .entry))))) × (now (book .exit) ≡ bookAfter (now (book .entry)) (restart (now (notes .entry)))) ⌝ }
+    ensures { λ r. ⌜ (r ≡ wholeIn (told (restart (now (notes .entry))))) × (now (book .exit) ≡ bookAfter (now (book .entry)) (restart (now (notes .entry)))) ⌝ }
 {
     match restart::restart(book, notes) {
         Restarted::Again(_, whole) => whole,
@@ -199,7 +179,7 @@ pub extern "C" fn bench_judge(
     k: usize,
     e: u32,
     body: &[u8],
-) -> u8
+) -> u32
     ensures { λ r. ⌜ r ≡ verdictNumber (judge (agreed (now (ours .entry)) n (now (theirs .entry)) k) (online e 0 0 .session) (piecesOf (now (body .entry)))) ⌝ }
 {
     let setup = agreed(*ours, n, *theirs, k);
@@ -211,9 +191,9 @@ pub extern "C" fn bench_judge(
     match session.judge(found) {
         Verdict::Settled(j) => {
             let outcome = j.outcome;
-            outcome_number(outcome)
+            outcome.number()
         }
-        Verdict::Report(_) => 14,
+        Verdict::Report(_) => 13,
     }
 }
 

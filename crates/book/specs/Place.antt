@@ -7,7 +7,7 @@ use lib.ListN.{length}
 use lib.Dec.{ltb, eqb}
 use Rattle.octet.specs.Bytes.{same}
 use Rattle.octet.specs.Maybe.{find, isNone}
-use Rattle.answer.specs.Numbers.{fault}
+use Rattle.answer.specs.Numbers.{fault, wrongValue}
 use Rattle.fill.specs.Slot.{Slot, isFill, execOf, orderOf, symbolOf, sideOf, sharesOf, priceOf, cumOf}
 use Rattle.book.specs.Memory.{mostSlots}
 use Rattle.book.specs.declared.Placed.{Placed}
@@ -37,12 +37,12 @@ sameContents a b =
 -- "OrderID known with another symbol: tag 55; another side: tag 54"
 unfoldable pub byOrder : Slot → Option Slot → Placed
 byOrder f none = New
-byOrder f (some k) = cond (sameSymbol f k) (cond (sameSide f k) New (Clash (fault 5 54))) (Clash (fault 5 55))
+byOrder f (some k) = cond (sameSymbol f k) (cond (sameSide f k) New (Clash (fault wrongValue 54))) (Clash (fault wrongValue 55))
 
 -- "ExecID (17) known today: same .. is already booked ..; anything different is Reject 5 tag 17"
 unfoldable pub byExec : List Slot → Slot → Option Slot → Placed
 byExec ss f none = byOrder f (find (sameOrder f) ss)
-byExec ss f (some k) = cond (sameContents f k) Already (Clash (fault 5 17))
+byExec ss f (some k) = cond (sameContents f k) Already (Clash (fault wrongValue 17))
 
 unfoldable pub place : List Slot → Slot → Placed
 place ss f = byExec ss f (find (sameExec f) ss)

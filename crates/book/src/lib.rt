@@ -6,7 +6,7 @@ ghost use lib.ListN.{length};
 ghost use lib.Dec.{eqb};
 ghost use Rattle.octet.specs.Bytes.{same};
 ghost use Rattle.octet.specs.Places.{wordAt};
-ghost use Rattle.answer.specs.Numbers.{fault, largest};
+ghost use Rattle.answer.specs.Numbers.{fault, wrongValue, largest};
 ghost use Rattle.fill.specs.Slot.{slotWidth, execOf, orderOf, sharesOf, cumOf};
 ghost use Rattle.book.specs.Place.{sameContents, sameExec, sameOrder, byOrder, fillsWith, carried};
 ghost use Rattle.book.specs.Memory.{mostSlots, bookWidth, slotsIn, slotAt, fitsAfter, appended, holding};
@@ -14,6 +14,7 @@ ghost use Rattle.book.specs.declared.Placed.the-variants.{Clash};
 ghost use Rattle.book.specs.Admitting.{admitOf};
 ghost use Rattle.book.specs.Seeing.{someSlot, Sees, Passes, seenExec, seenOrder, roomFor, ordersFor, PlacedBy};
 use answer::Fault;
+use answer::reasons;
 use answer::tags;
 use fill::ID;
 use fill::SLOT;
@@ -248,9 +249,9 @@ fn same_contents(a: &[u8], b: &[u8]) -> bool
 
 // "Reject 5 with the tag".
 fn clash(tag: u32) -> Placed
-    ensures { λ r. ⌜ r ≡ Clash (fault 5 tag) ⌝ }
+    ensures { λ r. ⌜ r ≡ Clash (fault wrongValue tag) ⌝ }
 {
-    Placed::Clash(Fault::of(5, tag))
+    Placed::Clash(Fault::of(reasons::WRONG_VALUE, tag))
 }
 
 // "OrderID known with another symbol: tag 55; another side: tag 54". known has no bytes where the order is not known.

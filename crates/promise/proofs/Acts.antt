@@ -52,7 +52,7 @@ use Rattle.receiver.specs.Calls.{spoken, owned, lost, settled, bookingNote, boo
 use Rattle.receiver.specs.Receiver.{What, Own-call, Line-lost, Message, Offer, Begin-again, Acknowledge, New-day, Restart, Lent, refuse, shortReply, badGiven, writing, refusalOf, unrefused, unless-refused, does}
 use Rattle.receiver.specs.declared.Answer.{Answer}
 use Rattle.receiver.specs.declared.Answer.the-variants.{Done, Refused, More, Garbled, Framed, None, Acked, Already}
-use Rattle.promise.specs.Sort.{Became, becameOf, tellsOf}
+use Rattle.promise.specs.Sort.{Became, becameOf, isAcked}
 use Rattle.promise.specs.World.{isAgain, startsAgain, isRefused, gave, Shown, showing, anew, linesOf}
 use Rattle.promise.specs.Demand3.{numberTold}
 use Rattle.promise.proofs.Executions.{none-some, no-snoc, no-empty, lines-append}
@@ -77,10 +77,6 @@ stands-anew st e h =
       base = omega arith;
       given = sym (ap (λ (i : ℕ). linesOf (n + 1) (take i (drop n (st .kept .slots)))) z);
     }
-
--- whether a call answers that it acknowledged
-abbrev pub isAcked : Answer → Bool
-isAcked a = tellsOf a .acked
 
 pub record Acts (st : State) (w : What) (d : Did) : Type 0 where
   pub notes : NoteSays (st .kept) w (d .next .kept) (d .note)

@@ -56,9 +56,9 @@ use Rattle.receiver.specs.Calls.{spoken, owned, lost, settled, booked, Deed, Sa
 use Rattle.receiver.specs.Receiver.{What, Own-call, Line-lost, Message, Offer, Begin-again, Acknowledge, New-day, Restart, Lent, writing, refusalOf, unrefused, unless-refused, does}
 use Rattle.receiver.specs.declared.Answer.{Answer}
 use Rattle.receiver.specs.declared.Answer.the-variants as answer
-use Rattle.promise.specs.Sort.{sortOf, Became}
+use Rattle.promise.specs.Sort.{sortOf, Became, isRejected}
 use Rattle.promise.specs.World.{world}
-use Rattle.promise.specs.WrittenRead.{MessagesReadBack, Writable, NotesReadBack, Leads, Messages, fieldsIn, stampOf, wordIn, wordOf, hasReject, isRejected, Replies, CallsReadBack}
+use Rattle.promise.specs.WrittenRead.{MessagesReadBack, Writable, NotesReadBack, Leads, Messages, fieldsIn, stampOf, wordIn, wordOf, hasReject, Replies, CallsReadBack}
 use Rattle.promise.proofs.Executions.{or-false}
 use Rattle.promise.proofs.Acts.{may-write}
 use Rattle.promise.proofs.Good.{safe-live, good}

@@ -24,7 +24,7 @@ use Rattle.note.specs.Kept.{waiting}
 use Rattle.report.specs.Report.{reportedIn, slotIn}
 use Rattle.report.specs.declared.Reported.{Reported}
 use Rattle.report.specs.declared.Reported.the-variants as reported
-use Rattle.restart.specs.Restart.{Outcome, Again, Unlawful, restart}
+use Rattle.restart.specs.Restart.{Unlawful, restart, told, refusedBy}
 use Rattle.session.specs.Judging.{judge}
 use Rattle.session.specs.declared.Verdict.{Verdict}
 use Rattle.session.specs.declared.Verdict.the-variants as verdict
@@ -34,7 +34,7 @@ use Rattle.receiver.specs.Receiver.{What, Message, Restart, Lent, refuse, call,
 use Rattle.receiver.specs.Steps.{leaveOf}
 use Rattle.receiver.specs.declared.State.{State as Stored}
 use Rattle.receiver.specs.declared.Answer.{Answer}
-use Rattle.promise.specs.Sort.{whereGiven, Buffers, sortOf, tellsOf}
+use Rattle.promise.specs.Sort.{whereGiven, Buffers, sortOf, refusedWith}
 use Rattle.promise.specs.World.{isRefused}
 use Rattle.promise.specs.Demand2.{Bookable}
 
@@ -96,12 +96,8 @@ abbrev pub stillWaiting : State → What → Bool
 stillWaiting st w = sortOf w .clears && ltb 0 (length (waiting (st .kept)))
 
 -- "8: unlawful note, with its first byte's place, from 0"
-abbrev pub unlawfulIn : Outcome → Option Refusal
-unlawfulIn (Again q whole) = none
-unlawfulIn (Unlawful at) = some (refusal.Unlawful at)
-
 abbrev pub unlawfulNote : What → Option Refusal
-unlawfulNote w = whereGiven none (λ (notes : List ℕ). unlawfulIn (restart notes)) (sortOf w .notes)
+unlawfulNote w = whereGiven none (λ (notes : List ℕ). refusedBy (told (restart notes))) (sortOf w .notes)
 
 -- ---- the table: of each row the refusal, where it holds. 9 is of setting up, before there is a state: see below
 
@@ -126,10 +122,6 @@ table setup st b w =
 abbrev pub firstThere : List (Option Refusal) → Option Refusal
 firstThere [] = none
 firstThere (r ∷ rs) = orElse r (firstThere rs)
-
--- the refusal that a call answers
-abbrev pub refusedWith : Answer → Option Refusal
-refusedWith a = tellsOf a .refused
 
 -- ---- "Nothing changes, lent buffers included"
 

@@ -1,17 +1,18 @@
--- What sort of call each is, and what each answer tells: one clause a call, one clause an answer. What the demands ask of a call or of an answer is looked up here.
+-- What sort of call each is, one clause a call, and what the demands ask of an answer. It is looked up here.
 use Prim.Native.Nat.{ℕ}
 use mathlib.Core.List.{List, [], _∷_}
 use mathlib.Core.Option.{Option, none, some}
-use mathlib.Core.Bool.{Bool, true, false}
+use mathlib.Core.Bool.{Bool, true, false, cond, _||_, not}
+use lib.Dec.{eqb}
+use Rattle.octet.specs.Maybe.{first, unless, isNone}
+use Rattle.answer.specs.Numbers.{outcomeNumber, outcomeValues}
 use Rattle.answer.specs.declared.Outcome.{Outcome}
-use Rattle.answer.specs.declared.Outcome.the-variants.{Ended, Rejected, RejectedEnded, Dropped, Gap, In, Heard, Echoed, Filled, Moved, Aside, Booked}
-use Rattle.answer.specs.declared.Outcome.the-variants as outcome
 use Rattle.answer.specs.declared.Refusal.{Refusal}
 use Rattle.session.specs.declared.Own.{Own}
 use Rattle.session.specs.declared.Own.the-variants.{Open, Beat, Ask, Close}
 use Rattle.receiver.specs.Receiver.{What, Own-call, Line-lost, Message, Offer, Begin-again, Acknowledge, New-day, Restart}
+use Rattle.receiver.specs.Answers.{tellsOf}
 use Rattle.receiver.specs.declared.Answer.{Answer}
-use Rattle.receiver.specs.declared.Answer.the-variants.{Done, Refused, More, Garbled, Framed, Offered, None, Acked, Already, Restarted}
 
 -- what f says of a thing where it is given; b where it is not
 abbrev pub whereGiven : {A B : Type 0} → B → (A → B) → Option A → B
@@ -77,9 +78,9 @@ sortOf (Acknowledge n) = record { lent = noteAlone; time = none; phases = anyPha
 sortOf New-day = record { lent = noteAlone; time = none; phases = outside; message = none; acks = none; begins = false; clears = true; notes = none }
 sortOf (Restart notes) = record { lent = noBuffer; time = none; phases = anyPhase; message = none; acks = none; begins = false; clears = false; notes = some notes }
 
--- ---- answers
+-- ---- answers, by the numbers and values that the receiver's own table of them has (`tellsOf`)
 
--- what became of a framed message: the number under which it was booked, and whether a Reject was written
+-- what became of a framed message: the number under which it was booked (outcome 12), and whether a Reject was written (outcomes 2 and 3)
 pub record Became : Type 0 where
   pub booked : Option ℕ
   pub rejected : Bool
@@ -88,39 +89,37 @@ abbrev pub neitherNor : Became
 neitherNor = record { booked = none; rejected = false }
 
 abbrev pub becameOf : Outcome → Became
-becameOf Ended = neitherNor
-becameOf (Rejected f) = record { booked = none; rejected = true }
-becameOf (RejectedEnded f) = record { booked = none; rejected = true }
-becameOf Dropped = neitherNor
-becameOf Gap = neitherNor
-becameOf In = neitherNor
-becameOf Heard = neitherNor
-becameOf Echoed = neitherNor
-becameOf Filled = neitherNor
-becameOf (Moved n) = neitherNor
-becameOf Aside = neitherNor
-becameOf outcome.Already = neitherNor
-becameOf (Booked n stepped) = record { booked = some n; rejected = false }
+becameOf o = record {
+  booked = cond (eqb (outcomeNumber o) 12) (first (outcomeValues o)) none;
+  rejected = eqb (outcomeNumber o) 2 || eqb (outcomeNumber o) 3;
+}
 
--- the refusal, what became of a message, whether a line was given, whether fills were acknowledged, and how many bytes a restart says are whole
-pub record Telling : Type 0 where
-  pub refused : Option Refusal
-  pub became : Became
-  pub offered : Bool
-  pub acked : Bool
-  pub whole : ℕ
+-- the refusal that an answer is
+abbrev pub refusedWith : Answer → Option Refusal
+refusedWith a = tellsOf a .refused
 
-abbrev pub nothing : Telling
-nothing = record { refused = none; became = neitherNor; offered = false; acked = false; whole = 0 }
+abbrev pub became : Answer → Became
+became a = whereGiven neitherNor becameOf (tellsOf a .became)
 
-abbrev pub tellsOf : Answer → Telling
-tellsOf Done = nothing
-tellsOf (Refused why) = record { refused = some why; became = neitherNor; offered = false; acked = false; whole = 0 }
-tellsOf More = nothing
-tellsOf (Garbled skip) = nothing
-tellsOf (Framed len outcome) = record { refused = none; became = becameOf outcome; offered = false; acked = false; whole = 0 }
-tellsOf Offered = record { refused = none; became = neitherNor; offered = true; acked = false; whole = 0 }
-tellsOf None = nothing
-tellsOf Acked = record { refused = none; became = neitherNor; offered = false; acked = true; whole = 0 }
-tellsOf Already = nothing
-tellsOf (Restarted whole) = record { refused = none; became = neitherNor; offered = false; acked = false; whole = whole }
+-- what a message was counted as, where it was: booked (outcome 12), already booked (outcome 11), rejected, or garbled (answer 3)
+abbrev pub isBooked : Answer → Bool
+isBooked a = not (isNone (became a .booked))
+
+abbrev pub isAlready : Answer → Bool
+isAlready a = whereGiven false (λ (o : Outcome). eqb (outcomeNumber o) 11) (tellsOf a .became)
+
+abbrev pub isRejected : Answer → Bool
+isRejected a = became a .rejected
+
+abbrev pub isGarbled : Answer → Bool
+isGarbled a = eqb (tellsOf a .number) 3
+
+-- whether a line was given (answer 5), whether fills were acknowledged (answer 7), and how many bytes a restart says are whole (answer 9)
+abbrev pub isOffered : Answer → Bool
+isOffered a = eqb (tellsOf a .number) 5
+
+abbrev pub isAcked : Answer → Bool
+isAcked a = eqb (tellsOf a .number) 7
+
+abbrev pub wholeOf : Answer → ℕ
+wholeOf a = cond (eqb (tellsOf a .number) 9) (unless 0 (first (tellsOf a .values))) 0

@@ -10,7 +10,7 @@ use Rattle.value.specs.Value.{priceIn}
 use Rattle.field.specs.Pieces.{Pieces}
 use Rattle.field.specs.Look.{Look, lookOf}
 use Rattle.table.specs.Steps.{numberOf}
-use Rattle.answer.specs.Numbers.{fault}
+use Rattle.answer.specs.Numbers.{fault, wrongValue}
 use Rattle.answer.specs.declared.Fault.{Fault}
 use Rattle.fill.specs.Slot.{Slot, Fill, bodyOf, slotOf}
 use Rattle.report.specs.declared.Reported.{Reported}
@@ -46,7 +46,7 @@ abbrev pub rule39 : List ℕ → List ℕ → Bool
 rule39 execType status = same status execType
 
 abbrev pub unlessKept : ℕ → Bool → Option Fault
-unlessKept tag kept = cond kept none (some (fault 5 tag))
+unlessKept tag kept = cond kept none (some (fault wrongValue tag))
 
 -- the first that is not kept, in this order
 unfoldable pub ruleFault : Report → Option Fault

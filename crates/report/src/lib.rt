@@ -1,5 +1,6 @@
 // An execution report that passed the table: its values, the four rules, and the slot of its fill.
 use answer::Fault;
+use answer::reasons;
 use answer::tags;
 use field::Index;
 use field::count_at;
@@ -11,7 +12,7 @@ ghost use mathlib.Core.Path.{_≡_};
 ghost use mathlib.Core.Option.{some};
 ghost use Prim.Native.Nat.{_%_};
 ghost use Rattle.value.specs.Value.{priceIn};
-ghost use Rattle.answer.specs.Numbers.{fault};
+ghost use Rattle.answer.specs.Numbers.{fault, wrongValue};
 ghost use Rattle.field.specs.Look.{lookIn};
 ghost use Rattle.table.specs.Steps.{numberOf, found};
 ghost use Rattle.report.specs.Report.{sumsOf, reportWith, rule14, rule151, rule150, rule39, ruleFault, reportedOf, slotFor};
@@ -83,9 +84,9 @@ fn keeps_39<'a>(kind: &'a [u8], status: &'a [u8]) -> bool
 
 // "each Reject 5 with the tag".
 fn broken(tag: u32) -> Judgement
-    ensures { λ r. ⌜ found r ≡ some (fault 5 tag) ⌝ }
+    ensures { λ r. ⌜ found r ≡ some (fault wrongValue tag) ⌝ }
 {
-    Judgement::Faulty(Fault::of(5, tag))
+    Judgement::Faulty(Fault::of(reasons::WRONG_VALUE, tag))
 }
 
 // The four rules in their order.

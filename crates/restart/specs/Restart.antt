@@ -2,11 +2,14 @@
 use Prim.Native.Nat.{ℕ, zero, suc, _+_}
 use mathlib.Core.Path.{_≡_}
 use mathlib.Core.List.{List}
+use mathlib.Core.Option.{Option, none, some}
 use mathlib.Core.Bool.{cond}
 use lib.ListN.{length, drop}
 use Rattle.book.specs.Memory.{slotsIn, holding}
 use Rattle.note.specs.Notes.{Reading, Whole, Part, Unknown, readNote}
 use Rattle.note.specs.Kept.{Kept, empty, lawful, after}
+use Rattle.answer.specs.declared.Refusal.{Refusal}
+use Rattle.answer.specs.declared.Refusal.the-variants as refusal
 use Rattle.restart.specs.declared.Counts.{Counts}
 use Rattle.restart.specs.declared.Restarted.{Restarted}
 use Rattle.restart.specs.declared.Restarted.the-variants as restarted
@@ -38,6 +41,15 @@ countsOf q = record { e = q .e; o = q .o; last = length (q .slots); fills = q .f
 abbrev pub told : Outcome → Restarted
 told (Again q whole) = restarted.Again (countsOf q) whole
 told (Unlawful at) = restarted.Unlawful at
+
+-- what is told of it: "8: unlawful note, with its first byte's place, from 0", or how many bytes are whole
+abbrev pub refusedBy : Restarted → Option Refusal
+refusedBy (restarted.Again counts whole) = none
+refusedBy (restarted.Unlawful at) = some (refusal.Unlawful at)
+
+abbrev pub wholeIn : Restarted → ℕ
+wholeIn (restarted.Again counts whole) = whole
+wholeIn (restarted.Unlawful at) = 0
 
 -- the book after it: only the used slots are written; "Nothing changes" where it is refused
 abbrev pub bookAfter : List ℕ → Outcome → List ℕ

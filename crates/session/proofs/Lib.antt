@@ -1,3 +1,4 @@
 pub mod Turns
+pub mod Leaving
 pub mod Answers
 pub mod Unique

@@ -12,7 +12,7 @@ use mathlib.Core.Bool.{Bool, true, false, cond, _&&_, _||_, not}
 use lib.Dec.{leb, ltb, eqb}
 use Rattle.octet.specs.Maybe.{isNone}
 use Rattle.field.specs.Pieces.{Pieces}
-use Rattle.answer.specs.Numbers.{fault, isKind}
+use Rattle.answer.specs.Numbers.{fault, wrongValue, isKind}
 use Rattle.answer.specs.declared.Setup.{Setup}
 use Rattle.answer.specs.declared.Phase.{Phase}
 use Rattle.answer.specs.declared.Phase.the-variants as phase
@@ -94,7 +94,7 @@ unfoldable pub moved : ℕ → Bool → Session → ℕ → Judged
 moved to reset s n =
     cond (ltb (s .e) to) (judged (Moved (to - s .e)) Nothing (expecting to s))
     (cond (eqb to (s .e) && reset) (judged Heard Nothing s)
-    (rejectedIf reset s n (fault 5 36)))
+    (rejectedIf reset s n (fault wrongValue 36)))
 
 -- "Logout in phase 2, none in 4; ended"
 unfoldable pub loggedOut : Session → Judged

@@ -1,3 +1,4 @@
 pub mod Session
 pub mod Reading
 pub mod Judging
+pub mod Leaving

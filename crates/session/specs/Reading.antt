@@ -14,7 +14,7 @@ use Rattle.field.specs.declared.Scan.{Scan}
 use Rattle.table.specs.Rows.{kindBy}
 use Rattle.table.specs.Steps.{numberOf, givenOf, firstFault, found}
 use Rattle.answer.specs.Setup.{ours, theirs}
-use Rattle.answer.specs.Numbers.{fault, lastSequence}
+use Rattle.answer.specs.Numbers.{fault, wrongId, lastSequence}
 use Rattle.answer.specs.declared.Setup.{Setup}
 use Rattle.answer.specs.declared.Kind.{Kind}
 use Rattle.answer.specs.declared.Fault.{Fault}
@@ -49,7 +49,7 @@ seqGiven (some v) = numberIf (numberRead 1 lastSequence v)
 -- step 2: "The first `49=` and then `56=` are the agreed IDs"
 abbrev pub idsGiven : Setup → Option (List ℕ) → Option (List ℕ) → Option Fault
 idsGiven setup sender target =
-    cond (isThat (theirs setup) sender) (cond (isThat (ours setup) target) none (some (fault 9 56))) (some (fault 9 49))
+    cond (isThat (theirs setup) sender) (cond (isThat (ours setup) target) none (some (fault wrongId 56))) (some (fault wrongId 49))
 
 abbrev pub yes : Option (List ℕ) → Bool
 yes v = isThat (bytesOf "Y") v

@@ -7,6 +7,7 @@ use answer::Fault;
 use answer::Kind;
 use answer::Outcome;
 use answer::Phase;
+use answer::reasons;
 use answer::tags;
 use table::Judgement;
 use wire::Reply;
@@ -187,7 +188,7 @@ impl Session {
     fn moved(self, to: u32, reset: bool, n: u32) -> Judged
         ensures { λ r. ⌜ r ≡ moved to reset self n ⌝ }
     {
-        let fault = Fault::of(5, tags::TO);
+        let fault = Fault::of(reasons::WRONG_VALUE, tags::TO);
         if self.e < to {
             return self.expecting(to)
                 .settled(Outcome::Moved(to - self.e), Reply::Nothing);

@@ -6,6 +6,7 @@ use answer::Id;
 use answer::Kind;
 use answer::LAST_SEQUENCE;
 use answer::Setup;
+use answer::reasons;
 use answer::tags;
 use field::Index;
 use field::Scan;
@@ -23,7 +24,7 @@ ghost use Rattle.field.specs.Look.{lookIn, first};
 ghost use Rattle.table.specs.Rows.{kindBy};
 ghost use Rattle.table.specs.Steps.{found};
 ghost use Rattle.answer.specs.Setup.{idOf};
-ghost use Rattle.answer.specs.Numbers.{fault};
+ghost use Rattle.answer.specs.Numbers.{fault, wrongId};
 ghost use Rattle.session.specs.Reading.{seqGiven, idsGiven, yes, factsOf, numbered, facts};
 
 // Whether an agreed ID is a value.
@@ -82,9 +83,9 @@ fn ids_fault(setup: Setup, body: &[u8], index: &Index) -> Judgement
 }
 
 fn wrong_id(tag: u32) -> Judgement
-    ensures { λ r. ⌜ found r ≡ some (fault 9 tag) ⌝ }
+    ensures { λ r. ⌜ found r ≡ some (fault wrongId tag) ⌝ }
 {
-    Judgement::Faulty(Fault::of(9, tag))
+    Judgement::Faulty(Fault::of(reasons::WRONG_ID, tag))
 }
 
 // The type of a message.

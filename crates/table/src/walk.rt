@@ -14,6 +14,7 @@ use answer::Fault;
 use answer::Kind;
 use answer::NINE_DIGITS;
 use answer::Setup;
+use answer::reasons;
 use field::Index;
 use field::count_at;
 use field::value_at;
@@ -157,17 +158,17 @@ fn tag_fault(
     let n = count_at(body, index, tag);
     if n == 0 {
         if needed {
-            return faulty(1, tag);
+            return faulty(reasons::MISSING, tag);
         }
         return Judgement::Fine;
     }
     if n != 1 {
-        return faulty(5, tag);
+        return faulty(reasons::WRONG_VALUE, tag);
     }
     match check_value(body, index, given, form, value_at(body, index, tag)) {
         Check::Good => Judgement::Fine,
-        Check::BadForm(at) => Judgement::Faulty(Fault { reason: 6, tag, at }),
-        Check::OutOfRange => faulty(5, tag),
+        Check::BadForm(at) => Judgement::Faulty(Fault { reason: reasons::WRONG_FORM, tag, at }),
+        Check::OutOfRange => faulty(reasons::WRONG_VALUE, tag),
     }
 }
 

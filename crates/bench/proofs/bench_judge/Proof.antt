@@ -11,7 +11,7 @@ returns : tie.Need-returns
 returns c =
     let f = c .before .before .before .before .before in
     let o = f .before .before .before .before .before in
-    c .outcome-number .ensures
+    c .number .ensures
     ∙ ap verdictNumber (judged-body (now (o .before .before .before .before .before .args .body)) (o .before .agreed .ensures) (ap (λ (x : Stored). x .session) (o .online .ensures)) (f .before .before .index-into .ensures) (f .findings-of .ensures) (sym (c .before .before .j .given .1) ∙ c .before .before .before .before .judge .ensures))
 
 returns-2 : tie.Need-returns-2

@@ -6,7 +6,7 @@ use Rattle.bench.proofs.word_of.Tie as tie
 
 returns : tie.Need-returns
 unfolding wordOf
-returns c = rw (c .answer-number .ensures) refl
+returns c = rw (c .became-number .ensures) refl
 
 pub word-of-spec : {M : Type 1} → statement M
 word-of-spec =

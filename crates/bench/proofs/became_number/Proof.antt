@@ -1,12 +1,12 @@
 use borrow.Author.Needs.{needs}
-use Rattle.bench.proofs.answer_number.Statement.{statement}
-use Rattle.bench.proofs.answer_number.Tie as tie
+use Rattle.bench.proofs.became_number.Statement.{statement}
+use Rattle.bench.proofs.became_number.Tie as tie
 
 returns : tie.Need-returns
-returns c = rw (c .before .before .answer .given .1) (c .outcome-number .ensures)
+returns c = rw (c .before .before .answer .given .1) (c .number .ensures)
 
-pub answer-number-spec : {M : Type 1} → statement M
-answer-number-spec =
+pub became-number-spec : {M : Type 1} → statement M
+became-number-spec =
     tie.close
     (tie.spec
     (λ c. search needs)
