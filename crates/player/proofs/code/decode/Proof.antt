@@ -1,10 +1,10 @@
--- `replay::code::decode` is safe and ends: each turn of its loop passes a byte of the word.
+-- `player::code::decode` is safe and ends: each turn of its loop passes a byte of the word.
 use mathlib.Core.Path.{_≡_}
 use Prim.Native.Nat.{_≤_, _-_}
 use lib.ListN.{length}
 use borrow.Author.Needs.{needs}
-use Rattle.replay.proofs.code.decode.Statement.{statement}
-use Rattle.replay.proofs.code.decode.Tie as tie
+use Rattle.player.proofs.code.decode.Statement.{statement}
+use Rattle.player.proofs.code.decode.Tie as tie
 
 abbrev Inv-loop : tie.InvT-loop
 Inv-loop word bytes₀ at end₀ i₀ bytes end i = (length bytes ≡ length bytes₀) × (i ≤ length word)
