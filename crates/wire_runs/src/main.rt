@@ -1,4 +1,5 @@
 // Writes one message of each kind, and replies of two messages, each on a line after the count of the numbers it uses; byte 1 is shown as `|`.
+// The expected bytes were laid out by hand, apart from the code, and QuickFIX reads each message as written (tests/engine/run).
 use answer::BAR;
 use answer::Fault;
 use answer::Id;

@@ -1,9 +1,9 @@
--- `replay::script::spaces` is safe and ends.
+-- `player::script::spaces` is safe and ends.
 use Prim.Native.Nat.{_≤_, _-_}
 use lib.ListN.{length}
 use borrow.Author.Needs.{needs}
-use Rattle.replay.proofs.script.spaces.Statement.{statement}
-use Rattle.replay.proofs.script.spaces.Tie as tie
+use Rattle.player.proofs.script.spaces.Statement.{statement}
+use Rattle.player.proofs.script.spaces.Tie as tie
 
 abbrev Inv-loop : tie.InvT-loop
 Inv-loop s n₀ i₀ n i = i ≤ length s

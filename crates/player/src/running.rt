@@ -28,8 +28,8 @@ const FILLED: u8 = 238;
 impl World {
     // A line that is no call, or that changes nothing.
     fn answer(self, answer: Text) -> World {
-        show(answer, self.state, self.tally, b"", b"", b"", false);
-        self
+        let written = show(answer, self.state, self.tally, b"", b"", b"", false);
+        self.after(self.state, self.tally, self.journal, written)
     }
 
     // The same with other buffers lent.
@@ -44,11 +44,12 @@ impl World {
             tally,
             journal: self.journal,
             sizes,
+            written: self.written,
         }
     }
 
-    // The same after a call.
-    fn after(self, state: State, tally: Tally, journal: usize) -> World {
+    // The same after a call whose line was written, or could not be.
+    fn after(self, state: State, tally: Tally, journal: usize, written: bool) -> World {
         let setup = self.setup;
         let sizes = self.sizes;
         World {
@@ -58,6 +59,7 @@ impl World {
             tally,
             journal,
             sizes,
+            written,
         }
     }
 }
@@ -75,6 +77,7 @@ pub(crate) fn fresh_world(begun: bool, setup: Setup) -> World {
             note: 102,
             line: 128,
         },
+        written: true,
     }
 }
 
@@ -134,6 +137,25 @@ fn is_kept(told: Told, reply: &[u8], note: &[u8], listed: &[u8]) -> bool {
     is_filled(listed, told.line)
 }
 
+// Shows what came back of a call, and answers whether that could be written.
+fn show_call(told: Told, tally: Tally, reply: &[u8], note: &[u8], listed: &[u8]) -> bool {
+    let spoiled = !is_kept(told, reply, note, listed);
+    let replied = octet::part(reply, 0, told.reply);
+    let noted = octet::part(note, 0, told.note);
+    let line = octet::part(listed, 0, told.line);
+    let answer = told.answer;
+    let state = told.state;
+    show(
+        say_answer(answer),
+        state,
+        tally,
+        replied,
+        noted,
+        line,
+        spoiled,
+    )
+}
+
 // Keeps what came back of a call, and shows it. A note that the journal does not hold is as a line that is not in the language: the state before
 // the call stands, and a slot that was written past its fills is none of them.
 fn finish(
@@ -149,23 +171,11 @@ fn finish(
     let state = told.state;
     let tally = came.tally;
     let answer = told.answer;
-    let written = octet::part(note, 0, told.note);
-    match keep(journal, w.journal, answer, bytes, written) {
+    let noted = octet::part(note, 0, told.note);
+    match keep(journal, w.journal, answer, bytes, noted) {
         Kept::To(n) => {
-            let next = w.after(state, tally, n);
-            let spoiled = !is_kept(told, reply, note, listed);
-            let replied = octet::part(reply, 0, told.reply);
-            let line = octet::part(listed, 0, told.line);
-            show(
-                say_answer(answer),
-                state,
-                tally,
-                replied,
-                written,
-                line,
-                spoiled,
-            );
-            next
+            let written = show_call(told, tally, reply, note, listed);
+            w.after(state, tally, n, written)
         }
         Kept::Full => what(w),
     }

@@ -1,9 +1,9 @@
--- `replay::calls::lent_of` answers a number of the buffer's bytes.
+-- `player::calls::lent_of` answers a number of the buffer's bytes.
 use mathlib.Core.Path.{sym}
 use native.Mathlib.Omega.{arith}
 use lib.Seq.{length-take-le}
-use Rattle.replay.proofs.calls.lent_of.Statement.{statement}
-use Rattle.replay.proofs.calls.lent_of.Tie as tie
+use Rattle.player.proofs.calls.lent_of.Statement.{statement}
+use Rattle.player.proofs.calls.lent_of.Tie as tie
 
 returns : tie.Need-returns
 returns c = (omega arith, sym (length-take-le _ _ (omega arith)))

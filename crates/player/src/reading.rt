@@ -7,6 +7,7 @@ use super::running::run_line;
 use super::running::what;
 use super::script::read_line;
 use book::BOOK;
+use libc::STDERR_FILENO;
 use libc::STDIN_FILENO;
 
 // Where the reading stands: how many bytes of a line have come, and whether there may be more.
@@ -43,6 +44,32 @@ fn take_line(
     run_line(w, read, bytes, journal, book)
 }
 
+// What went wrong, on standard error. Where that cannot be written either, there is nobody to tell.
+fn complain(why: &[u8]) {
+    io::write_all(STDERR_FILENO, why);
+}
+
+// There is no more to read.
+fn ended(world: World) -> Reading {
+    Reading {
+        world,
+        len: 0,
+        more: false,
+    }
+}
+
+// A read failed: what came before it has been run, and a line that has not come whole is none.
+fn unread(world: World) -> Reading {
+    complain(b"replay: the script could not be read\n");
+    ended(world)
+}
+
+// A write failed: nobody would hear of what is run after it.
+fn unwritten(world: World) -> Reading {
+    complain(b"replay: the transcript could not be written\n");
+    ended(world)
+}
+
 // Runs the lines that a piece of the script ends.
 fn take_piece(
     r: Reading,
@@ -67,6 +94,9 @@ fn take_piece(
         }
         let next = at + n + 1;
         world = take_line(world, line, len, bytes, journal, book);
+        if !world.written {
+            return unwritten(world);
+        }
         len = 0;
         at = next;
     }
@@ -87,14 +117,12 @@ fn read_once(
 ) -> Reading {
     let mut piece = io::large_buffer();
     let got = libc::read(STDIN_FILENO, &mut piece);
+    if got < 0 {
+        return unread(r.world);
+    }
     let n = io::count(got, &piece);
     if n == 0 {
-        let world = r.world;
-        return Reading {
-            world,
-            len: 0,
-            more: false,
-        };
+        return ended(r.world);
     }
     take_piece(r, octet::part(&piece, 0, n), line, bytes, journal, book)
 }

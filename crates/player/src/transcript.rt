@@ -146,7 +146,7 @@ fn ending(spoiled: bool) -> Text {
     text_of(b"\n")
 }
 
-// Writes the line of a call: its answer, the numbers after it, and what it wrote to each buffer.
+// Writes the line of a call: its answer, the numbers after it, and what it wrote to each buffer. It answers whether that could be written.
 pub(crate) fn show(
     answer: Text,
     state: State,
@@ -155,7 +155,7 @@ pub(crate) fn show(
     note: &[u8],
     line: &[u8],
     spoiled: bool,
-) {
+) -> bool {
     let mut out = [0u8; SHOWN];
     let numbers = say_tally(say_state(answer, state), tally);
     let front = numbers.place(&mut out, 0);
@@ -163,5 +163,5 @@ pub(crate) fn show(
     let noted = put_written(&mut out, replied, b"note", note);
     let back = put_written(&mut out, noted, b"line", line);
     let end = ending(spoiled).place(&mut out, back);
-    io::write_all(STDOUT_FILENO, octet::part(&out, 0, end));
+    io::write_all(STDOUT_FILENO, octet::part(&out, 0, end))
 }

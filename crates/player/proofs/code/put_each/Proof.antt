@@ -1,10 +1,10 @@
--- `replay::code::put_each` is safe and ends.
+-- `player::code::put_each` is safe and ends.
 use mathlib.Core.Path.{_≡_}
 use Prim.Native.Nat.{_≤_, _-_}
 use lib.ListN.{length}
 use borrow.Author.Needs.{needs}
-use Rattle.replay.proofs.code.put_each.Statement.{statement}
-use Rattle.replay.proofs.code.put_each.Tie as tie
+use Rattle.player.proofs.code.put_each.Statement.{statement}
+use Rattle.player.proofs.code.put_each.Tie as tie
 
 abbrev Inv-loop : tie.InvT-loop
 Inv-loop out₀ at s end₀ i₀ out end i = (length out ≡ length out₀) × (i ≤ length s)

@@ -1,9 +1,9 @@
--- `replay::reading::run` is safe and ends: its turns are counted down.
+-- `player::reading::run` is safe and ends: its turns are counted down.
 use mathlib.Core.Path.{_≡_, refl}
 use lib.ListN.{length}
 use borrow.Author.Needs.{needs}
-use Rattle.replay.proofs.reading.run.Statement.{statement}
-use Rattle.replay.proofs.reading.run.Tie as tie
+use Rattle.player.proofs.reading.run.Statement.{statement}
+use Rattle.player.proofs.reading.run.Tie as tie
 
 abbrev Inv-loop : tie.InvT-loop
 Inv-loop line₀ bytes₀ journal₀ book₀ r₀ turns₀ line bytes journal book r turns =

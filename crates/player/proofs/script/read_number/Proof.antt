@@ -1,9 +1,9 @@
--- `replay::script::read_number` is safe and ends.
+-- `player::script::read_number` is safe and ends.
 use Prim.Native.Nat.{_≤_, _-_}
 use lib.ListN.{length}
 use borrow.Author.Needs.{needs}
-use Rattle.replay.proofs.script.read_number.Statement.{statement}
-use Rattle.replay.proofs.script.read_number.Tie as tie
+use Rattle.player.proofs.script.read_number.Statement.{statement}
+use Rattle.player.proofs.script.read_number.Tie as tie
 
 abbrev Inv-loop : tie.InvT-loop
 Inv-loop word n₀ i₀ n i = i ≤ length word
