@@ -1,20 +1,30 @@
--- No second answer satisfies a promise of this crate: each is one equation.
-use Prim.Native.Nat.{ℕ}
-use mathlib.Core.Path.{_≡_}
-use Rattle.octet.proofs.Unique.{Answer, one-answer}
-use Rattle.answer.specs.Numbers.{fault, counted}
-use Rattle.answer.specs.declared.Fault.{Fault}
-use Rattle.answer.specs.declared.Id.{Id}
-use Rattle.answer.specs.declared.Setup.{Setup}
+-- No second answer satisfies the contract of a public function: proved of the contract itself (octet's Once.antt).
+use Rattle.octet.proofs.Once.{Once, alone}
+use Rattle.answer.proofs.Fault.of as of
+use Rattle.answer.proofs.count_on as count-on
+use Rattle.answer.proofs.Phase.number as phase-number
+use Rattle.answer.proofs.Outcome.number as outcome-number
+use Rattle.answer.proofs.Refusal.number as refusal-number
+use Rattle.answer.proofs.Setup.ours as ours
+use Rattle.answer.proofs.Setup.theirs as theirs
 
-pub fault-one : (reason tag : ℕ) {r r′ : Fault} → Answer (fault reason tag) r → Answer (fault reason tag) r′ → r ≡ r′
-fault-one reason tag p q = one-answer p q
+pub fault-one : Once of.ended (λ M 𝓤. of.clauses 𝓤) (λ κs r e. r)
+fault-one M 𝓤 H A mem run κs a g = (_, λ r e. alone 𝓤)
 
-pub count-on-one : (n k : ℕ) {r r′ : ℕ} → Answer (counted n k) r → Answer (counted n k) r′ → r ≡ r′
-count-on-one n k p q = one-answer p q
+pub count-on-one : Once count-on.ended (λ M 𝓤. count-on.clauses 𝓤) (λ κs r e. r)
+count-on-one M 𝓤 H A mem run κs a g = (_, λ r e. alone 𝓤)
 
-pub ours-one : (s : Setup) {r r′ : Id} → Answer (s .ours) r → Answer (s .ours) r′ → r ≡ r′
-ours-one s p q = one-answer p q
+pub phase-number-one : Once phase-number.ended (λ M 𝓤. phase-number.clauses 𝓤) (λ κs r e. r)
+phase-number-one M 𝓤 H A mem run κs a g = (_, λ r e. alone 𝓤)
 
-pub theirs-one : (s : Setup) {r r′ : Id} → Answer (s .theirs) r → Answer (s .theirs) r′ → r ≡ r′
-theirs-one s p q = one-answer p q
+pub outcome-number-one : Once outcome-number.ended (λ M 𝓤. outcome-number.clauses 𝓤) (λ κs r e. r)
+outcome-number-one M 𝓤 H A mem run κs a g = (_, λ r e. alone 𝓤)
+
+pub refusal-number-one : Once refusal-number.ended (λ M 𝓤. refusal-number.clauses 𝓤) (λ κs r e. r)
+refusal-number-one M 𝓤 H A mem run κs a g = (_, λ r e. alone 𝓤)
+
+pub ours-one : Once ours.ended (λ M 𝓤. ours.clauses 𝓤) (λ κs r e. r)
+ours-one M 𝓤 H A mem run κs a g = (_, λ r e. alone 𝓤)
+
+pub theirs-one : Once theirs.ended (λ M 𝓤. theirs.clauses 𝓤) (λ κs r e. r)
+theirs-one M 𝓤 H A mem run κs a g = (_, λ r e. alone 𝓤)

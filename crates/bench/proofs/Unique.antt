@@ -1,41 +1,30 @@
--- No second number and no second lent byte satisfies a promise of what is timed.
-use Prim.Native.Nat.{ℕ}
-use mathlib.Core.Path.{_≡_, sym, _∙_}
-use mathlib.Core.List.{List}
-use Rattle.octet.proofs.Unique.{Writes, one-writing}
-use Rattle.listing.specs.Listing.{Lists}
-use Rattle.listing.proofs.Unique.{write-listing-one}
-use Rattle.receiver.specs.State.{Did}
-use Rattle.restart.specs.Restart.{restart, told, wholeIn, bookAfter}
-use Rattle.frame.specs.Finding.{foundIn}
-use Rattle.session.specs.declared.Verdict.{Verdict}
-use Rattle.book.specs.declared.Admitted.{Admitted}
-use Rattle.bench.specs.Timed.{Timed, lengthOf, Indexed, verdictNumber, admittedNumber}
+-- No second number and no second lent byte satisfy the contract of what is timed: proved of the contract itself (octet's Once.antt).
+use Rattle.octet.proofs.Once.{Once, alone, paired, by, both, _&_}
+use Rattle.bench.proofs.bench_message as bench-message
+use Rattle.bench.proofs.bench_restart as bench-restart
+use Rattle.bench.proofs.bench_listing as bench-listing
+use Rattle.bench.proofs.bench_find as bench-find
+use Rattle.bench.proofs.bench_index as bench-index
+use Rattle.bench.proofs.bench_judge as bench-judge
+use Rattle.bench.proofs.bench_admit as bench-admit
 
--- r is the number; the book, the reply and the note at entry and at exit
-pub message-one : (d : Did) {r r′ : ℕ} {book book₁ book₂ reply reply₁ reply₂ note note₁ note₂ : List ℕ}
-    → Timed d r book book₁ reply reply₁ note note₁ → Timed d r′ book book₂ reply reply₂ note note₂
-    → (r ≡ r′) × (book₁ ≡ book₂) × (reply₁ ≡ reply₂) × (note₁ ≡ note₂)
-message-one d p q = (p .told ∙ sym (q .told), p .booked ∙ sym (q .booked), p .replied ∙ sym (q .replied), p .noted ∙ sym (q .noted))
+pub message-one : Once bench-message.ended (λ M 𝓤. bench-message.clauses 𝓤) (λ κs r e. r & e .1 .1 .1 .1 .1 .1 .1 .1 .1 .0 .now & e .1 .1 .1 .1 .1 .1 .1 .1 .1 .1 .0 .now & e .1 .1 .1 .1 .1 .1 .1 .1 .1 .1 .1 .0 .now)
+message-one M 𝓤 H A mem run κs a g = (_, λ r e. by 𝓤 (λ p. both (p .told) (both (p .booked) (both (p .replied) (p .noted)))))
 
-pub restart-one : (book notes : List ℕ) {r r′ : ℕ} {b b′ : List ℕ} → Writes (wholeIn (told (restart notes))) (bookAfter book (restart notes)) r b
-    → Writes (wholeIn (told (restart notes))) (bookAfter book (restart notes)) r′ b′ → (r ≡ r′) × (b ≡ b′)
-restart-one book notes p q = one-writing p q
+pub restart-one : Once bench-restart.ended (λ M 𝓤. bench-restart.clauses 𝓤) (λ κs r e. r & e .0 .now)
+restart-one M 𝓤 H A mem run κs a g = (_, λ r e. paired 𝓤)
 
--- the answer, the bytes written and the lent book are those of the listing's own promise
-pub listing-one : (notes book out : List ℕ) {r r′ : ℕ} {o o′ b b′ : List ℕ} → Lists notes book out r b o → Lists notes book out r′ b′ o′
-    → (r ≡ r′) × (o ≡ o′) × (b ≡ b′)
-listing-one notes book out p q = write-listing-one notes book out p q
+pub listing-one : Once bench-listing.ended (λ M 𝓤. bench-listing.clauses 𝓤) (λ κs r e. r & e .1 .0 .now & e .1 .1 .0 .now)
+listing-one M 𝓤 H A mem run κs a g = (_, λ r e. by 𝓤 (λ p. both (p .0) (both (p .2) (p .1))))
 
-pub find-one : (s : List ℕ) {r r′ : ℕ} → r ≡ lengthOf (foundIn s) → r′ ≡ lengthOf (foundIn s) → r ≡ r′
-find-one s p q = p ∙ sym q
+pub find-one : Once bench-find.ended (λ M 𝓤. bench-find.clauses 𝓤) (λ κs r e. r)
+find-one M 𝓤 H A mem run κs a g = (_, λ r e. alone 𝓤)
 
--- the number and the index
-pub index-one : (body : List ℕ) {r r′ : ℕ} {x x′ : List ℕ} → Indexed body r x → Indexed body r′ x′ → (r ≡ r′) × (x ≡ x′)
-index-one body p q = (p .fault ∙ sym (q .fault), p .listed ∙ sym (q .listed))
+pub index-one : Once bench-index.ended (λ M 𝓤. bench-index.clauses 𝓤) (λ κs r e. r & e .1 .0 .now)
+index-one M 𝓤 H A mem run κs a g = (_, λ r e. by 𝓤 (λ p. both (p .fault) (p .listed)))
 
-pub judge-one : (v : Verdict) {r r′ : ℕ} → r ≡ verdictNumber v → r′ ≡ verdictNumber v → r ≡ r′
-judge-one v p q = p ∙ sym q
+pub judge-one : Once bench-judge.ended (λ M 𝓤. bench-judge.clauses 𝓤) (λ κs r e. r)
+judge-one M 𝓤 H A mem run κs a g = (_, λ r e. alone 𝓤)
 
-pub admit-one : (x : Admitted) {r r′ : ℕ} → r ≡ admittedNumber x → r′ ≡ admittedNumber x → r ≡ r′
-admit-one x p q = p ∙ sym q
+pub admit-one : Once bench-admit.ended (λ M 𝓤. bench-admit.clauses 𝓤) (λ κs r e. r)
+admit-one M 𝓤 H A mem run κs a g = (_, λ r e. alone 𝓤)

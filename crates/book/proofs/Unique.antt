@@ -1,25 +1,18 @@
--- No second answer, and no second lent bytes, satisfy the promise of a public function.
-use Prim.Native.Nat.{ℕ}
-use mathlib.Core.Path.{_≡_}
-use mathlib.Core.List.{List}
-use mathlib.Core.Bool.{Bool}
-use Rattle.octet.proofs.Unique.{Answer, one-answer, Writes, one-writing}
-use Rattle.fill.specs.Slot.{Slot}
-use Rattle.book.specs.Memory.{slotsIn, slotAt, fitsAfter, appended, holding}
-use Rattle.book.specs.Admitting.{admitOf}
-use Rattle.book.specs.declared.Admitted.{Admitted}
+-- No second answer, and no second lent bytes, satisfy the contract of a public function: proved of the contract itself (octet's Once.antt).
+use Rattle.octet.proofs.Once.{Once, alone, paired, first, _&_}
+use Rattle.book.proofs.admit as admit
+use Rattle.book.proofs.append as append
+use Rattle.book.proofs.slot_at as slot-at
+use Rattle.book.proofs.put_slots as put-slots
 
-pub slot-at-one : (m : List ℕ) (i : ℕ) {r r′ : List ℕ} → Answer (slotAt i m) r → Answer (slotAt i m) r′ → r ≡ r′
-slot-at-one m i p q = one-answer p q
+pub admit-one : Once admit.ended (λ M 𝓤. admit.clauses 𝓤) (λ κs r e. r)
+admit-one M 𝓤 H A mem run κs a g = (_, λ r e. alone 𝓤)
 
-module _ (m : List ℕ) (count : ℕ) (s : Slot) where
-  pub admit-one : (fills orders : ℕ) {r r′ : Admitted} → Answer (admitOf (slotsIn count m) fills orders s) r → Answer (admitOf (slotsIn count m) fills orders s) r′ → r ≡ r′
-  admit-one fills orders p q = one-answer p q
+pub append-one : Once append.ended (λ M 𝓤. append.clauses 𝓤) (λ κs r e. r & e .0 .now)
+append-one M 𝓤 H A mem run κs a g = (_, λ r e. paired 𝓤)
 
-  -- the answer, and what stands in the memory
-  pub append-one : {r r′ : Bool} {b b′ : List ℕ} → Writes (fitsAfter count s) (appended m count s) r b → Writes (fitsAfter count s) (appended m count s) r′ b′ → (r ≡ r′) × (b ≡ b′)
-  append-one p q = one-writing p q
+pub slot-at-one : Once slot-at.ended (λ M 𝓤. slot-at.clauses 𝓤) (λ κs r e. r .now)
+slot-at-one M 𝓤 H A mem run κs a g = (_, λ r e. alone 𝓤)
 
-  -- what stands in the memory, of which m is the other
-  pub put-slots-one : (d : List ℕ) {b b′ : List ℕ} → Answer (holding d (slotsIn count m)) b → Answer (holding d (slotsIn count m)) b′ → b ≡ b′
-  put-slots-one d p q = one-answer p q
+pub put-slots-one : Once put-slots.ended (λ M 𝓤. put-slots.clauses 𝓤) (λ κs r e. e .0 .now)
+put-slots-one M 𝓤 H A mem run κs a g = (_, λ r e. first 𝓤 _ _)

@@ -1,25 +1,14 @@
--- No second answer satisfies a promise of this crate: each is an equation with a definition.
-use mathlib.Core.Path.{_≡_, sym, _∙_}
-use mathlib.Core.List.{List}
-use Prim.Native.Nat.{ℕ}
-use Rattle.field.specs.Pieces.{piecesOf, scanOf}
-use Rattle.field.specs.Index.{indexOf}
-use Rattle.field.specs.Look.{lookIn}
-use Rattle.field.specs.declared.Scan.{Scan}
+-- No second answer, and no second lent list, satisfy the contract of a public function: proved of the contract itself (octet's Once.antt).
+use Rattle.octet.proofs.Once.{Once, alone, paired, _&_}
+use Rattle.field.proofs.index_into as index-into
+use Rattle.field.proofs.value_at as value-at
+use Rattle.field.proofs.count_at as count-at
 
--- the shape that all of them have
-once : {A : Type 0} {a b d : A} → a ≡ d → b ≡ d → a ≡ b
-once p q = p ∙ sym q
+pub index-into-once : Once index-into.ended (λ M 𝓤. index-into.clauses 𝓤) (λ κs r e. r & e .1 .0 .now)
+index-into-once M 𝓤 H A mem run κs a g = (_, λ r e. paired 𝓤)
 
-module _ (body : List ℕ) where
-  -- the answer and the list that is lent
-  pub index-into-once : (r r′ : Scan) (index index′ : List ℕ) → (r ≡ scanOf (piecesOf body)) × (index ≡ indexOf body)
-      → (r′ ≡ scanOf (piecesOf body)) × (index′ ≡ indexOf body) → (r ≡ r′) × (index ≡ index′)
-  index-into-once r r′ index index′ p q = (once (p .0) (q .0), once (p .1) (q .1))
+pub value-at-once : Once value-at.ended (λ M 𝓤. value-at.clauses 𝓤) (λ κs r e. r .now)
+value-at-once M 𝓤 H A mem run κs a g = (_, λ r e. alone 𝓤)
 
-  module _ (tag : ℕ) where
-    pub value-at-once : (index r r′ : List ℕ) → r ≡ lookIn body index .text tag → r′ ≡ lookIn body index .text tag → r ≡ r′
-    value-at-once index r r′ p q = once p q
-
-    pub count-at-once : (index : List ℕ) (r r′ : ℕ) → r ≡ lookIn body index .count tag → r′ ≡ lookIn body index .count tag → r ≡ r′
-    count-at-once index r r′ p q = once p q
+pub count-at-once : Once count-at.ended (λ M 𝓤. count-at.clauses 𝓤) (λ κs r e. r)
+count-at-once M 𝓤 H A mem run κs a g = (_, λ r e. alone 𝓤)

@@ -1,51 +1,50 @@
--- No second answer, and no second lent bytes, satisfy the promise of a public function.
-use Prim.Native.Nat.{ℕ}
-use mathlib.Core.Path.{_≡_}
-use mathlib.Core.List.{List}
-use mathlib.Core.Bool.{Bool, cond}
-use lib.ListN.{length}
-use Rattle.octet.specs.Splice.{splice, fitsAt}
-use Rattle.octet.proofs.Unique.{Answer, one-answer, Writes, one-writing}
-use Rattle.fill.specs.Slot.{Fill, bodyOf, slotOf, isFill, execOf, orderOf, symbolOf, sideOf, sharesOf, priceOf, cumOf, slotLawful, lineLeast, lineOf}
-use Rattle.answer.specs.declared.Setup.{Setup}
+-- No second answer, and no second lent bytes, satisfy the contract of a public function: proved of the contract itself (octet's Once.antt).
+use Rattle.octet.proofs.Once.{Once, alone, first, joined, _&_}
+use Rattle.fill.proofs.is_fill as is-fill
+use Rattle.fill.proofs.exec_of as exec-of
+use Rattle.fill.proofs.order_of as order-of
+use Rattle.fill.proofs.symbol_of as symbol-of
+use Rattle.fill.proofs.side_of as side-of
+use Rattle.fill.proofs.shares_of as shares-of
+use Rattle.fill.proofs.price_of as price-of
+use Rattle.fill.proofs.cum_of as cum-of
+use Rattle.fill.proofs.slot_with as slot-with
+use Rattle.fill.proofs.is_lawful as is-lawful
+use Rattle.fill.proofs.line_least as line-least
+use Rattle.fill.proofs.write_line as write-line
 
-pub slot-with-one : (f : Fill) {r r′ : List ℕ} → Answer (slotOf (bodyOf f)) r → Answer (slotOf (bodyOf f)) r′ → r ≡ r′
-slot-with-one f p q = one-answer p q
+pub is-fill-one : Once is-fill.ended (λ M 𝓤. is-fill.clauses 𝓤) (λ κs r e. r)
+is-fill-one M 𝓤 H A mem run κs a g = (_, λ r e. alone 𝓤)
 
-pub line-least-one : (setup : Setup) {r r′ : ℕ} → Answer (lineLeast setup) r → Answer (lineLeast setup) r′ → r ≡ r′
-line-least-one setup p q = one-answer p q
+pub exec-of-one : Once exec-of.ended (λ M 𝓤. exec-of.clauses 𝓤) (λ κs r e. r .now)
+exec-of-one M 𝓤 H A mem run κs a g = (_, λ r e. alone 𝓤)
 
-module _ (s : List ℕ) where
-  pub is-fill-one : {r r′ : Bool} → Answer (isFill s) r → Answer (isFill s) r′ → r ≡ r′
-  is-fill-one p q = one-answer p q
+pub order-of-one : Once order-of.ended (λ M 𝓤. order-of.clauses 𝓤) (λ κs r e. r .now)
+order-of-one M 𝓤 H A mem run κs a g = (_, λ r e. alone 𝓤)
 
-  pub exec-of-one : {r r′ : List ℕ} → Answer (execOf s) r → Answer (execOf s) r′ → r ≡ r′
-  exec-of-one p q = one-answer p q
+pub symbol-of-one : Once symbol-of.ended (λ M 𝓤. symbol-of.clauses 𝓤) (λ κs r e. r .now)
+symbol-of-one M 𝓤 H A mem run κs a g = (_, λ r e. alone 𝓤)
 
-  pub order-of-one : {r r′ : List ℕ} → Answer (orderOf s) r → Answer (orderOf s) r′ → r ≡ r′
-  order-of-one p q = one-answer p q
+pub side-of-one : Once side-of.ended (λ M 𝓤. side-of.clauses 𝓤) (λ κs r e. r)
+side-of-one M 𝓤 H A mem run κs a g = (_, λ r e. alone 𝓤)
 
-  pub symbol-of-one : {r r′ : List ℕ} → Answer (symbolOf s) r → Answer (symbolOf s) r′ → r ≡ r′
-  symbol-of-one p q = one-answer p q
+pub shares-of-one : Once shares-of.ended (λ M 𝓤. shares-of.clauses 𝓤) (λ κs r e. r)
+shares-of-one M 𝓤 H A mem run κs a g = (_, λ r e. alone 𝓤)
 
-  pub side-of-one : {r r′ : ℕ} → Answer (sideOf s) r → Answer (sideOf s) r′ → r ≡ r′
-  side-of-one p q = one-answer p q
+pub price-of-one : Once price-of.ended (λ M 𝓤. price-of.clauses 𝓤) (λ κs r e. r)
+price-of-one M 𝓤 H A mem run κs a g = (_, λ r e. alone 𝓤)
 
-  pub shares-of-one : {r r′ : ℕ} → Answer (sharesOf s) r → Answer (sharesOf s) r′ → r ≡ r′
-  shares-of-one p q = one-answer p q
+pub cum-of-one : Once cum-of.ended (λ M 𝓤. cum-of.clauses 𝓤) (λ κs r e. r)
+cum-of-one M 𝓤 H A mem run κs a g = (_, λ r e. alone 𝓤)
 
-  pub price-of-one : {r r′ : ℕ} → Answer (priceOf s) r → Answer (priceOf s) r′ → r ≡ r′
-  price-of-one p q = one-answer p q
+pub slot-with-one : Once slot-with.ended (λ M 𝓤. slot-with.clauses 𝓤) (λ κs r e. r)
+slot-with-one M 𝓤 H A mem run κs a g = (_, λ r e. alone 𝓤)
 
-  pub cum-of-one : {r r′ : ℕ} → Answer (cumOf s) r → Answer (cumOf s) r′ → r ≡ r′
-  cum-of-one p q = one-answer p q
+pub is-lawful-one : Once is-lawful.ended (λ M 𝓤. is-lawful.clauses 𝓤) (λ κs r e. r)
+is-lawful-one M 𝓤 H A mem run κs a g = (_, λ r e. alone 𝓤)
 
-  pub is-lawful-one : {r r′ : Bool} → Answer (slotLawful s) r → Answer (slotLawful s) r′ → r ≡ r′
-  is-lawful-one p q = one-answer p q
+pub line-least-one : Once line-least.ended (λ M 𝓤. line-least.clauses 𝓤) (λ κs r e. r)
+line-least-one M 𝓤 H A mem run κs a g = (_, λ r e. alone 𝓤)
 
-  -- the answer, and what stands in the line
-  pub write-line-one : (n : ℕ) (line : List ℕ) {r r′ : ℕ} {b b′ : List ℕ}
-      → Writes (cond (fitsAt line 0 (lineOf n s)) (length (lineOf n s)) 0) (splice line 0 (lineOf n s)) r b
-      → Writes (cond (fitsAt line 0 (lineOf n s)) (length (lineOf n s)) 0) (splice line 0 (lineOf n s)) r′ b′
-      → (r ≡ r′) × (b ≡ b′)
-  write-line-one n line p q = one-writing p q
+pub write-line-one : Once write-line.ended (λ M 𝓤. write-line.clauses 𝓤) (λ κs r e. r & e .1 .1 .0 .now)
+write-line-one M 𝓤 H A mem run κs a g = (_, λ r e. joined 𝓤 _ _ (alone 𝓤) (first 𝓤 _ _))

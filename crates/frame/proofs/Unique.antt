@@ -1,18 +1,18 @@
--- No second answer satisfies the promise of a public function: each promise says of the answer what it equals.
-use mathlib.Core.Path.{_≡_, sym, _∙_}
-use mathlib.Core.List.{List}
-use Prim.Native.Nat.{ℕ}
-use Rattle.frame.specs.Finding.{foundBy, foundIn, bodyBy, bodyIn}
-use Rattle.frame.specs.declared.Found.{Found}
+-- No second answer satisfies the contract of a public function: proved of the contract itself (octet's Once.antt).
+use Rattle.octet.proofs.Once.{Once, alone}
+use Rattle.frame.proofs.find_by as find-by
+use Rattle.frame.proofs.find as find
+use Rattle.frame.proofs.body_by as body-by
+use Rattle.frame.proofs.body as body
 
-pub find-by-once : (o s : List ℕ) (p q : Found) → p ≡ foundBy o s → q ≡ foundBy o s → p ≡ q
-find-by-once o s p q e f = e ∙ sym f
+pub find-by-once : Once find-by.ended (λ M 𝓤. find-by.clauses 𝓤) (λ κs r e. r)
+find-by-once M 𝓤 H A mem run κs a g = (_, λ r e. alone 𝓤)
 
-pub find-once : (s : List ℕ) (p q : Found) → p ≡ foundIn s → q ≡ foundIn s → p ≡ q
-find-once s p q e f = e ∙ sym f
+pub find-once : Once find.ended (λ M 𝓤. find.clauses 𝓤) (λ κs r e. r)
+find-once M 𝓤 H A mem run κs a g = (_, λ r e. alone 𝓤)
 
-pub body-by-once : (o s : List ℕ) (n : ℕ) (p q : List ℕ) → p ≡ bodyBy o n s → q ≡ bodyBy o n s → p ≡ q
-body-by-once o s n p q e f = e ∙ sym f
+pub body-by-once : Once body-by.ended (λ M 𝓤. body-by.clauses 𝓤) (λ κs r e. r .now)
+body-by-once M 𝓤 H A mem run κs a g = (_, λ r e. alone 𝓤)
 
-pub body-once : (s : List ℕ) (n : ℕ) (p q : List ℕ) → p ≡ bodyIn n s → q ≡ bodyIn n s → p ≡ q
-body-once s n p q e f = e ∙ sym f
+pub body-once : Once body.ended (λ M 𝓤. body.clauses 𝓤) (λ κs r e. r .now)
+body-once M 𝓤 H A mem run κs a g = (_, λ r e. alone 𝓤)

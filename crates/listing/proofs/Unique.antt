@@ -1,10 +1,6 @@
--- No second answer, and no second lent bytes, satisfy the promise of the listing.
-use Prim.Native.Nat.{ℕ}
-use mathlib.Core.Path.{_≡_, sym, _∙_}
-use mathlib.Core.List.{List}
-use Rattle.listing.specs.Listing.{Lists}
+-- No second answer, and no second lent bytes, satisfy the contract of the listing: proved of the contract itself (octet's Once.antt).
+use Rattle.octet.proofs.Once.{Once, by, both, _&_}
+use Rattle.listing.proofs.write_listing as write-listing
 
-module _ (notes book out : List ℕ) where
-  -- the answer, the bytes written and the lent book
-  pub write-listing-one : {r r′ : ℕ} {o o′ b b′ : List ℕ} → Lists notes book out r b o → Lists notes book out r′ b′ o′ → (r ≡ r′) × (o ≡ o′) × (b ≡ b′)
-  write-listing-one p q = (p .0 ∙ sym (q .0), p .1 ∙ sym (q .1), p .2 ∙ sym (q .2))
+pub write-listing-one : Once write-listing.ended (λ M 𝓤. write-listing.clauses 𝓤) (λ κs r e. r & e .1 .0 .now & e .1 .1 .0 .now)
+write-listing-one M 𝓤 H A mem run κs a g = (_, λ r e. by 𝓤 (λ p. both (p .0) (both (p .2) (p .1))))

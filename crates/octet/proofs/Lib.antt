@@ -2,4 +2,5 @@ pub mod Cases
 pub mod Lists
 pub mod Places
 pub mod Padded
+pub mod Once
 pub mod Unique

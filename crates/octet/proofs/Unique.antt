@@ -1,83 +1,70 @@
--- No second answer, and no second lent bytes, satisfy the promise of a public function: said once of an answer, once of an answer with what
--- is written, and then of each function.
-use Prim.Native.Nat.{ℕ}
-use mathlib.Core.Path.{_≡_, sym, _∙_}
-use mathlib.Core.List.{List}
-use mathlib.Core.Bool.{Bool}
-use lib.ListN.{getD, replicate}
-use Rattle.octet.specs.Bytes.{same, agree, part, untilByte, runIn, allIn}
-use Rattle.octet.specs.Places.{wordAt, high, bigEndian}
-use Rattle.octet.specs.Splice.{splice, fitsAt}
-use Rattle.octet.specs.Padded.{PutsPadded, textOf, paddedOk}
+-- No second answer, and no second lent bytes, satisfy the contract of a public function: see Once.antt.
+use Rattle.octet.proofs.Once.{Once, alone, paired, _&_}
+use Rattle.octet.proofs.byte_at as byte-at
+use Rattle.octet.proofs.agree as agree
+use Rattle.octet.proofs.same as same
+use Rattle.octet.proofs.part as part
+use Rattle.octet.proofs.word_at as word-at
+use Rattle.octet.proofs.until as until
+use Rattle.octet.proofs.run_in as run-in
+use Rattle.octet.proofs.all_in as all-in
+use Rattle.octet.proofs.copy_into as copy-into
+use Rattle.octet.proofs.four_at as four-at
+use Rattle.octet.proofs.eight_at as eight-at
+use Rattle.octet.proofs.put_four as put-four
+use Rattle.octet.proofs.put_eight as put-eight
+use Rattle.octet.proofs.put_zeros as put-zeros
+use Rattle.octet.proofs.put_padded as put-padded
+use Rattle.octet.proofs.text_of as text-of
+use Rattle.octet.proofs.padded_ok as padded-ok
 
--- r is what the definition says
-abbrev pub Answer : {A : Type 0} → A → A → Type 0
-Answer d r = r ≡ d
+pub byte-at-one : Once byte-at.ended (λ M 𝓤. byte-at.clauses 𝓤) (λ κs r e. r)
+byte-at-one M 𝓤 H A mem run κs a g = (_, λ r e. alone 𝓤)
 
-pub one-answer : {A : Type 0} {d r r′ : A} → Answer d r → Answer d r′ → r ≡ r′
-one-answer p q = p ∙ sym q
+pub agree-one : Once agree.ended (λ M 𝓤. agree.clauses 𝓤) (λ κs r e. r)
+agree-one M 𝓤 H A mem run κs a g = (_, λ r e. alone 𝓤)
 
--- r is what is answered and b what stands in the lent bytes
-abbrev pub Writes : {A B : Type 0} → A → B → A → B → Type 0
-Writes d e r b = (r ≡ d) × (b ≡ e)
+pub same-one : Once same.ended (λ M 𝓤. same.clauses 𝓤) (λ κs r e. r)
+same-one M 𝓤 H A mem run κs a g = (_, λ r e. alone 𝓤)
 
-pub one-writing : {A B : Type 0} {d r r′ : A} {e b b′ : B} → Writes d e r b → Writes d e r′ b′ → (r ≡ r′) × (b ≡ b′)
-one-writing p q = (p .0 ∙ sym (q .0), p .1 ∙ sym (q .1))
+pub part-one : Once part.ended (λ M 𝓤. part.clauses 𝓤) (λ κs r e. r .now)
+part-one M 𝓤 H A mem run κs a g = (_, λ r e. alone 𝓤)
 
-module _ (s : List ℕ) where
-  pub byte-at-one : (i : ℕ) {r r′ : ℕ} → Answer (getD s i 0) r → Answer (getD s i 0) r′ → r ≡ r′
-  byte-at-one i p q = one-answer p q
+pub word-at-one : Once word-at.ended (λ M 𝓤. word-at.clauses 𝓤) (λ κs r e. r)
+word-at-one M 𝓤 H A mem run κs a g = (_, λ r e. alone 𝓤)
 
-  pub agree-one : (o : List ℕ) {r r′ : Bool} → Answer (agree o s) r → Answer (agree o s) r′ → r ≡ r′
-  agree-one o p q = one-answer p q
+pub until-one : Once until.ended (λ M 𝓤. until.clauses 𝓤) (λ κs r e. r)
+until-one M 𝓤 H A mem run κs a g = (_, λ r e. alone 𝓤)
 
-  pub same-one : (b : List ℕ) {r r′ : Bool} → Answer (same s b) r → Answer (same s b) r′ → r ≡ r′
-  same-one b p q = one-answer p q
+pub run-in-one : Once run-in.ended (λ M 𝓤. run-in.clauses 𝓤) (λ κs r e. r)
+run-in-one M 𝓤 H A mem run κs a g = (_, λ r e. alone 𝓤)
 
-  pub word-at-one : (at : ℕ) {r r′ : ℕ} → Answer (wordAt at s) r → Answer (wordAt at s) r′ → r ≡ r′
-  word-at-one at p q = one-answer p q
+pub all-in-one : Once all-in.ended (λ M 𝓤. all-in.clauses 𝓤) (λ κs r e. r)
+all-in-one M 𝓤 H A mem run κs a g = (_, λ r e. alone 𝓤)
 
-  pub part-one : (at n : ℕ) {r r′ : List ℕ} → Answer (part at n s) r → Answer (part at n s) r′ → r ≡ r′
-  part-one at n p q = one-answer p q
+pub copy-into-one : Once copy-into.ended (λ M 𝓤. copy-into.clauses 𝓤) (λ κs r e. r & e .0 .now)
+copy-into-one M 𝓤 H A mem run κs a g = (_, λ r e. paired 𝓤)
 
-  pub until-one : (b : ℕ) {r r′ : ℕ} → Answer (untilByte b s) r → Answer (untilByte b s) r′ → r ≡ r′
-  until-one b p q = one-answer p q
+pub four-at-one : Once four-at.ended (λ M 𝓤. four-at.clauses 𝓤) (λ κs r e. r)
+four-at-one M 𝓤 H A mem run κs a g = (_, λ r e. alone 𝓤)
 
-  pub run-in-one : (low high : ℕ) {r r′ : ℕ} → Answer (runIn low high s) r → Answer (runIn low high s) r′ → r ≡ r′
-  run-in-one low high p q = one-answer p q
+pub eight-at-one : Once eight-at.ended (λ M 𝓤. eight-at.clauses 𝓤) (λ κs r e. r)
+eight-at-one M 𝓤 H A mem run κs a g = (_, λ r e. alone 𝓤)
 
-  pub all-in-one : (low high : ℕ) {r r′ : Bool} → Answer (allIn low high s) r → Answer (allIn low high s) r′ → r ≡ r′
-  all-in-one low high p q = one-answer p q
+pub put-four-one : Once put-four.ended (λ M 𝓤. put-four.clauses 𝓤) (λ κs r e. r & e .0 .now)
+put-four-one M 𝓤 H A mem run κs a g = (_, λ r e. paired 𝓤)
 
-  pub four-at-one : (at : ℕ) {r r′ : ℕ} → Answer (bigEndian (part at 4 s)) r → Answer (bigEndian (part at 4 s)) r′ → r ≡ r′
-  four-at-one at p q = one-answer p q
+pub put-eight-one : Once put-eight.ended (λ M 𝓤. put-eight.clauses 𝓤) (λ κs r e. r & e .0 .now)
+put-eight-one M 𝓤 H A mem run κs a g = (_, λ r e. paired 𝓤)
 
-  pub eight-at-one : (at : ℕ) {r r′ : ℕ} → Answer (bigEndian (part at 8 s)) r → Answer (bigEndian (part at 8 s)) r′ → r ≡ r′
-  eight-at-one at p q = one-answer p q
+pub put-zeros-one : Once put-zeros.ended (λ M 𝓤. put-zeros.clauses 𝓤) (λ κs r e. r & e .0 .now)
+put-zeros-one M 𝓤 H A mem run κs a g = (_, λ r e. paired 𝓤)
 
-  pub text-of-one : {r r′ : List ℕ} → Answer (textOf s) r → Answer (textOf s) r′ → r ≡ r′
-  text-of-one p q = one-answer p q
+pub put-padded-one : Once put-padded.ended (λ M 𝓤. put-padded.clauses 𝓤) (λ κs r e. r & e .0 .now)
+put-padded-one M 𝓤 H A mem run κs a g = (_, λ r e. paired 𝓤)
 
-  pub padded-ok-one : (least low high : ℕ) {r r′ : Bool} → Answer (paddedOk least low high s) r → Answer (paddedOk least low high s) r′ → r ≡ r′
-  padded-ok-one least low high p q = one-answer p q
+pub text-of-one : Once text-of.ended (λ M 𝓤. text-of.clauses 𝓤) (λ κs r e. r .now)
+text-of-one M 𝓤 H A mem run κs a g = (_, λ r e. alone 𝓤)
 
--- what is lent is d, and d′ and d″ are what stands there after
-module _ (d : List ℕ) (at : ℕ) {r r′ : Bool} {d′ d″ : List ℕ} where
-  -- copy_into, and with s = high 4 n, high 8 n and zeros put_four, put_eight and put_zeros
-  pub copy-into-one : (s : List ℕ) → Writes (fitsAt d at s) (splice d at s) r d′ → Writes (fitsAt d at s) (splice d at s) r′ d″ → (r ≡ r′) × (d′ ≡ d″)
-  copy-into-one s p q = one-writing p q
-
-  pub put-four-one : (n : ℕ) → Writes (fitsAt d at (high 4 n)) (splice d at (high 4 n)) r d′ → Writes (fitsAt d at (high 4 n)) (splice d at (high 4 n)) r′ d″ → (r ≡ r′) × (d′ ≡ d″)
-  put-four-one n p q = copy-into-one (high 4 n) p q
-
-  pub put-eight-one : (n : ℕ) → Writes (fitsAt d at (high 8 n)) (splice d at (high 8 n)) r d′ → Writes (fitsAt d at (high 8 n)) (splice d at (high 8 n)) r′ d″ → (r ≡ r′) × (d′ ≡ d″)
-  put-eight-one n p q = copy-into-one (high 8 n) p q
-
-  pub put-zeros-one : (n : ℕ)
-      → Writes (fitsAt d at (replicate n 0)) (splice d at (replicate n 0)) r d′
-      → Writes (fitsAt d at (replicate n 0)) (splice d at (replicate n 0)) r′ d″
-      → (r ≡ r′) × (d′ ≡ d″)
-  put-zeros-one n p q = copy-into-one (replicate n 0) p q
-
-  pub put-padded-one : (width : ℕ) (t : List ℕ) → PutsPadded d at width t r d′ → PutsPadded d at width t r′ d″ → (r ≡ r′) × (d′ ≡ d″)
-  put-padded-one width t p q = one-writing p q
+pub padded-ok-one : Once padded-ok.ended (λ M 𝓤. padded-ok.clauses 𝓤) (λ κs r e. r)
+padded-ok-one M 𝓤 H A mem run κs a g = (_, λ r e. alone 𝓤)

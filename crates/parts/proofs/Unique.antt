@@ -1,10 +1,6 @@
--- No second answer, and no second lent bytes, satisfy the promise of a public function.
-use Prim.Native.Nat.{ℕ}
-use mathlib.Core.Path.{_≡_}
-use mathlib.Core.List.{List}
-use mathlib.Core.Bool.{Bool}
-use Rattle.octet.proofs.Unique.{one-writing}
-use Rattle.parts.specs.Relaid.{Relays}
+-- No second answer, and no second lent bytes, satisfy the contract of a public function: proved of the contract itself (octet's Once.antt).
+use Rattle.octet.proofs.Once.{Once, paired, _&_}
+use Rattle.parts.proofs.relay as relay
 
-pub relay-one : (d : List ℕ) (at : ℕ) (x from to : List ℕ) {r r′ : Bool} {d′ d″ : List ℕ} → Relays d at x from to r d′ → Relays d at x from to r′ d″ → (r ≡ r′) × (d′ ≡ d″)
-relay-one d at x from to p q = one-writing p q
+pub relay-one : Once relay.ended (λ M 𝓤. relay.clauses 𝓤) (λ κs r e. r & e .0 .now)
+relay-one M 𝓤 H A mem run κs a g = (_, λ r e. paired 𝓤)

@@ -1,36 +1,30 @@
--- No second answer, and no second lent bytes, satisfy the promise of a public function.
-use Prim.Native.Nat.{ℕ}
-use mathlib.Core.Path.{_≡_, sym, _∙_}
-use mathlib.Core.List.{List}
-use Rattle.octet.proofs.Unique.{Answer, one-answer, Writes, one-writing}
-use Rattle.answer.specs.declared.Setup.{Setup}
-use Rattle.queue.specs.declared.Marks.{Marks}
-use Rattle.queue.specs.declared.Offer.{Offer}
-use Rattle.queue.specs.declared.Acknowledged.{Acknowledged}
-use Rattle.queue.specs.declared.Day.{Day}
-use Rattle.queue.specs.Queue.{noMarks, marksAgain, oneMore, Offers, begunAgain, Acknowledges, newDay}
+-- No second answer, and no second lent bytes, satisfy the contract of a public function: proved of the contract itself (octet's Once.antt).
+use Rattle.octet.proofs.Once.{Once, alone, paired, by, both, _&_}
+use Rattle.queue.proofs.Marks.none as none
+use Rattle.queue.proofs.Marks.again as again
+use Rattle.queue.proofs.Marks.one_more as one-more
+use Rattle.queue.proofs.Marks.offer as offer
+use Rattle.queue.proofs.Marks.begin_again as begin-again
+use Rattle.queue.proofs.Marks.acknowledge as acknowledge
+use Rattle.queue.proofs.Marks.new_day as new-day
 
-pub none-one : {r r′ : Marks} → Answer noMarks r → Answer noMarks r′ → r ≡ r′
-none-one p q = one-answer p q
+pub none-one : Once none.ended (λ M 𝓤. none.clauses 𝓤) (λ κs r e. r)
+none-one M 𝓤 H A mem run κs a g = (_, λ r e. alone 𝓤)
 
-pub again-one : (last fills orders acked : ℕ) {r r′ : Marks} → Answer (marksAgain last fills orders acked) r → Answer (marksAgain last fills orders acked) r′ → r ≡ r′
-again-one last fills orders acked p q = one-answer p q
+pub again-one : Once again.ended (λ M 𝓤. again.clauses 𝓤) (λ κs r e. r)
+again-one M 𝓤 H A mem run κs a g = (_, λ r e. alone 𝓤)
 
-module _ (m : Marks) (book : List ℕ) where
-  pub one-more-one : (fills orders : ℕ) {r r′ : Marks} → Answer (oneMore fills orders m) r → Answer (oneMore fills orders m) r′ → r ≡ r′
-  one-more-one fills orders p q = one-answer p q
+pub one-more-one : Once one-more.ended (λ M 𝓤. one-more.clauses 𝓤) (λ κs r e. r)
+one-more-one M 𝓤 H A mem run κs a g = (_, λ r e. alone 𝓤)
 
-  -- the answer and the line
-  pub offer-one : (setup : Setup) (line : List ℕ) {r r′ : Offer} {l l′ : List ℕ} → Offers setup m book line r l → Offers setup m book line r′ l′ → (r ≡ r′) × (l ≡ l′)
-  offer-one setup line p q = one-writing p q
+pub offer-one : Once offer.ended (λ M 𝓤. offer.clauses 𝓤) (λ κs r e. r & e .1 .1 .1 .0 .now)
+offer-one M 𝓤 H A mem run κs a g = (_, λ r e. paired 𝓤)
 
-  pub begin-again-one : {r r′ : Marks} → Answer (begunAgain m) r → Answer (begunAgain m) r′ → r ≡ r′
-  begin-again-one p q = one-answer p q
+pub begin-again-one : Once begin-again.ended (λ M 𝓤. begin-again.clauses 𝓤) (λ κs r e. r)
+begin-again-one M 𝓤 H A mem run κs a g = (_, λ r e. alone 𝓤)
 
-  -- the answer, the book and the note
-  pub acknowledge-one : (setup : Setup) (n : ℕ) (note : List ℕ) {r r′ : Acknowledged} {b b′ d d′ : List ℕ}
-      → Acknowledges setup m n book note r b d → Acknowledges setup m n book note r′ b′ d′ → (r ≡ r′) × (b ≡ b′) × (d ≡ d′)
-  acknowledge-one setup n note p q = (p .0 ∙ sym (q .0), p .1 ∙ sym (q .1), p .2 ∙ sym (q .2))
+pub acknowledge-one : Once acknowledge.ended (λ M 𝓤. acknowledge.clauses 𝓤) (λ κs r e. r & e .1 .1 .0 .now & e .1 .1 .1 .1 .0 .now)
+acknowledge-one M 𝓤 H A mem run κs a g = (_, λ r e. by 𝓤 (λ p. both (p .0) (both (p .1) (p .2))))
 
-  pub new-day-one : {r r′ : Day} {b b′ : List ℕ} → Writes (newDay m) book r b → Writes (newDay m) book r′ b′ → (r ≡ r′) × (b ≡ b′)
-  new-day-one p q = one-writing p q
+pub new-day-one : Once new-day.ended (λ M 𝓤. new-day.clauses 𝓤) (λ κs r e. r & e .1 .0 .now)
+new-day-one M 𝓤 H A mem run κs a g = (_, λ r e. paired 𝓤)

@@ -1,15 +1,10 @@
--- No second answer satisfies the promise of a public function.
-use mathlib.Core.Path.{_≡_}
-use mathlib.Core.List.{List}
-use Prim.Native.Nat.{ℕ}
-use Rattle.octet.proofs.Unique.{Answer, one-answer}
-use Rattle.field.specs.Look.{lookIn}
-use Rattle.report.specs.declared.Reported.{Reported}
-use Rattle.report.specs.Report.{reportedOf, slotFor}
+-- No second answer satisfies the contract of a public function: proved of the contract itself (octet's Once.antt).
+use Rattle.octet.proofs.Once.{Once, alone}
+use Rattle.report.proofs.reported_at as reported-at
+use Rattle.report.proofs.slot_at as slot-at
 
-module _ (body index : List ℕ) where
-  pub reported-at-one : {r r′ : Reported} → Answer (reportedOf (lookIn body index)) r → Answer (reportedOf (lookIn body index)) r′ → r ≡ r′
-  reported-at-one p q = one-answer p q
+pub reported-at-one : Once reported-at.ended (λ M 𝓤. reported-at.clauses 𝓤) (λ κs r e. r)
+reported-at-one M 𝓤 H A mem run κs a g = (_, λ r e. alone 𝓤)
 
-  pub slot-at-one : {r r′ : List ℕ} → Answer (slotFor (lookIn body index)) r → Answer (slotFor (lookIn body index)) r′ → r ≡ r′
-  slot-at-one p q = one-answer p q
+pub slot-at-one : Once slot-at.ended (λ M 𝓤. slot-at.clauses 𝓤) (λ κs r e. r)
+slot-at-one M 𝓤 H A mem run κs a g = (_, λ r e. alone 𝓤)

@@ -1,10 +1,6 @@
--- No second answer, and no second lent book, satisfy the promise of a restart.
-use Prim.Native.Nat.{ℕ}
-use mathlib.Core.Path.{_≡_}
-use mathlib.Core.List.{List}
-use Rattle.octet.proofs.Unique.{one-writing}
-use Rattle.restart.specs.declared.Restarted.{Restarted}
-use Rattle.restart.specs.Restart.{restart, Restarts}
+-- No second answer, and no second lent book, satisfy the contract of a restart: proved of the contract itself (octet's Once.antt).
+use Rattle.octet.proofs.Once.{Once, by, both, _&_}
+use Rattle.restart.proofs.restart as restart
 
-pub restart-one : (book notes : List ℕ) {r r′ : Restarted} {b b′ : List ℕ} → Restarts book (restart notes) r b → Restarts book (restart notes) r′ b′ → (r ≡ r′) × (b ≡ b′)
-restart-one book notes p q = one-writing (p .0, p .1) (q .0, q .1)
+pub restart-one : Once restart.ended (λ M 𝓤. restart.clauses 𝓤) (λ κs r e. r & e .0 .now)
+restart-one M 𝓤 H A mem run κs a g = (_, λ r e. by 𝓤 (λ p. both (p .0) (p .1)))

@@ -1,83 +1,106 @@
--- No second answer satisfies a promise of this crate: each is an equation with its definition.
+-- No second answer satisfies the contract of a public function: proved of the contract itself (octet's Once.antt).
 use mathlib.Core.Path.{_≡_, refl, sym, ap, _∙_}
-use mathlib.Core.List.{List}
 use mathlib.Core.Option.{none, some}
-use mathlib.Core.Bool.{Bool}
 use Prim.Native.Nat.{ℕ}
 use lib.Dec.{eqb}
 use borrow.Author.Tests.{eqb-true}
 use Rattle.octet.specs.Maybe.{unless}
 use Rattle.octet.proofs.Cases.{of-cond, ap-cond}
-use Rattle.field.specs.declared.Scan.{Scan}
-use Rattle.field.specs.Look.{lookIn}
-use Rattle.table.proofs.Unique.{found-once}
-use Rattle.answer.specs.declared.Setup.{Setup}
-use Rattle.answer.specs.declared.Fault.{Fault}
-use Rattle.answer.specs.declared.Outcome.{Outcome}
-use Rattle.wire.specs.declared.Say.{Say}
-use Rattle.wire.specs.declared.Reply.{Reply}
-use Rattle.session.specs.Session.{fresh, isOff, isOn, says, mayCall, ownCall, lineLost}
-use Rattle.session.specs.Judging.{rejected, passed, judgedBy, wordTag}
-use Rattle.session.specs.Reading.{factsOf, numbered, facts}
-use Rattle.session.specs.declared.Own.{Own}
-use Rattle.session.specs.declared.Session.{Session}
+use Rattle.table.proofs.Unique.{judged, judged-found}
+use Rattle.session.specs.Reading.{Facts, numbered, facts}
 use Rattle.session.specs.declared.Findings.{Findings}
-use Rattle.session.specs.declared.Judged.{Judged}
-use Rattle.session.specs.declared.Verdict.{Verdict}
-
--- the session after a call: fresh; own, which open, heartbeat, test_request and close are by name; line_lost
-pub data After : Session → Session → Type 0 where
-  anew : (s : Session) → After s fresh
-  own : (what : Own) (s : Session) → After s (ownCall what s)
-  line-lost : (s : Session) → After s (lineLost s)
-
-pub session-once : (s next : Session) → After s next → (r r′ : Session) → r ≡ next → r′ ≡ next → r ≡ r′
-session-once s next which r r′ p q = p ∙ sym q
-
--- what is asked of a session: is_off, is_on, may_call
-pub data Asked : Session → Bool → Type 0 where
-  off : (s : Session) → Asked s (isOff (s .phase))
-  on : (s : Session) → Asked s (isOn (s .phase))
-  may : (what : Own) (s : Session) → Asked s (mayCall what (s .phase))
-
-pub asked-once : (s : Session) (answer : Bool) → Asked s answer → (r r′ : Bool) → r ≡ answer → r′ ≡ answer → r ≡ r′
-asked-once s answer which r r′ p q = p ∙ sym q
-
-pub says-once : (what : Own) (r r′ : Say) → r ≡ says what → r′ ≡ says what → r ≡ r′
-says-once what r r′ p q = p ∙ sym q
+use Rattle.octet.proofs.Once.{Once, alone, by}
+use Rattle.session.proofs.own_calls.says as says
+use Rattle.session.proofs.Session.fresh as fresh
+use Rattle.session.proofs.Session.is_off as is-off
+use Rattle.session.proofs.Session.is_on as is-on
+use Rattle.session.proofs.Session.may_call as may-call
+use Rattle.session.proofs.Session.open as opening
+use Rattle.session.proofs.Session.heartbeat as heartbeat
+use Rattle.session.proofs.Session.test_request as test-request
+use Rattle.session.proofs.Session.close as close
+use Rattle.session.proofs.Session.own as own
+use Rattle.session.proofs.Session.line_lost as line-lost
+use Rattle.session.proofs.Session.rejected as rejected
+use Rattle.session.proofs.Session.passed as passed
+use Rattle.session.proofs.reading.findings_of as findings-of
+use Rattle.session.proofs.Session.judge as judge
+use Rattle.session.proofs.judging.word_tag as word-tag
 
 -- what was read is known by its facts: 0 is no number, and a judgement is known by its fault
-pub numbered-once : (n k : ℕ) → numbered n ≡ numbered k → n ≡ k
-numbered-once n k e = sym (back n) ∙ ap (unless 0) e ∙ back k
-  where
-    back : (n : ℕ) → unless 0 (numbered n) ≡ n
-    back n = ap-cond (unless 0) (eqb n 0) none (some n) ∙ of-cond (λ (x : ℕ). x ≡ n) (eqb n 0) (λ z. sym (eqb-true n 0 z)) (λ z. refl)
-
-pub facts-once : (r r′ : Findings) → facts r ≡ facts r′ → r ≡ r′
-facts-once r r′ e = λ i. record {
-  kind = e i .kind;
-  seq = numbered-once (r .seq) (r′ .seq) (λ j. e j .seq) i;
-  ids = found-once (r .ids) (r′ .ids) (λ j. e j .ids) i;
-  fault = found-once (r .fault) (r′ .fault) (λ j. e j .fault) i;
-  again = e i .again;
-  filling = e i .filling;
-  from = e i .from;
-  last = e i .upTo;
-  to = e i .to;
+abbrev known : Facts → Findings
+known f = record {
+  kind = f .kind;
+  seq = unless 0 (f .seq);
+  ids = judged (f .ids);
+  fault = judged (f .fault);
+  again = f .again;
+  filling = f .filling;
+  from = f .from;
+  last = f .upTo;
+  to = f .to;
 }
 
-pub findings-of-once : (setup : Setup) (s : Session) (body index : List ℕ) (scan : Scan) (r r′ : Findings) → facts r ≡ factsOf setup s scan (lookIn body index)
-    → facts r′ ≡ factsOf setup s scan (lookIn body index) → r ≡ r′
-findings-of-once setup s body index scan r r′ p q = facts-once r r′ (p ∙ sym q)
+unless-numbered : (n : ℕ) → unless 0 (numbered n) ≡ n
+unless-numbered n = ap-cond (unless 0) (eqb n 0) none (some n) ∙ of-cond (λ (x : ℕ). x ≡ n) (eqb n 0) (λ z. sym (eqb-true n 0 z)) (λ z. refl)
 
-pub judge-once : (s : Session) (m : Findings) (r r′ : Verdict) → r ≡ judgedBy s (facts m) → r′ ≡ judgedBy s (facts m) → r ≡ r′
-judge-once s m r r′ p q = p ∙ sym q
+known-facts : (r : Findings) → known (facts r) ≡ r
+known-facts r = λ i. record {
+  kind = r .kind;
+  seq = unless-numbered (r .seq) i;
+  ids = judged-found (r .ids) i;
+  fault = judged-found (r .fault) i;
+  again = r .again;
+  filling = r .filling;
+  from = r .from;
+  last = r .last;
+  to = r .to;
+}
 
-pub rejected-once : (s : Session) (n : ℕ) (f : Fault) (r r′ : Judged) → r ≡ rejected s n f → r′ ≡ rejected s n f → r ≡ r′
-rejected-once s n f r r′ p q = p ∙ sym q
+pub says-once : Once says.ended (λ M 𝓤. says.clauses 𝓤) (λ κs r e. r)
+says-once M 𝓤 H A mem run κs a g = (_, λ r e. alone 𝓤)
 
-pub passed-once : (o : Outcome) (s : Session) (r r′ : Judged) → r ≡ passed o s → r′ ≡ passed o s → r ≡ r′
-passed-once o s r r′ p q = p ∙ sym q
+pub fresh-once : Once fresh.ended (λ M 𝓤. fresh.clauses 𝓤) (λ κs r e. r)
+fresh-once M 𝓤 H A mem run κs a g = (_, λ r e. alone 𝓤)
 
-pub word-tag-once : (reply : Reply) (r r′ : ℕ) → r ≡ wordTag reply → r′ ≡ wordTag reply → r ≡ r′
-word-tag-once reply r r′ p q = p ∙ sym q
+pub is-off-once : Once is-off.ended (λ M 𝓤. is-off.clauses 𝓤) (λ κs r e. r)
+is-off-once M 𝓤 H A mem run κs a g = (_, λ r e. alone 𝓤)
+
+pub is-on-once : Once is-on.ended (λ M 𝓤. is-on.clauses 𝓤) (λ κs r e. r)
+is-on-once M 𝓤 H A mem run κs a g = (_, λ r e. alone 𝓤)
+
+pub may-call-once : Once may-call.ended (λ M 𝓤. may-call.clauses 𝓤) (λ κs r e. r)
+may-call-once M 𝓤 H A mem run κs a g = (_, λ r e. alone 𝓤)
+
+pub open-once : Once opening.ended (λ M 𝓤. opening.clauses 𝓤) (λ κs r e. r)
+open-once M 𝓤 H A mem run κs a g = (_, λ r e. alone 𝓤)
+
+pub heartbeat-once : Once heartbeat.ended (λ M 𝓤. heartbeat.clauses 𝓤) (λ κs r e. r)
+heartbeat-once M 𝓤 H A mem run κs a g = (_, λ r e. alone 𝓤)
+
+pub test-request-once : Once test-request.ended (λ M 𝓤. test-request.clauses 𝓤) (λ κs r e. r)
+test-request-once M 𝓤 H A mem run κs a g = (_, λ r e. alone 𝓤)
+
+pub close-once : Once close.ended (λ M 𝓤. close.clauses 𝓤) (λ κs r e. r)
+close-once M 𝓤 H A mem run κs a g = (_, λ r e. alone 𝓤)
+
+pub own-once : Once own.ended (λ M 𝓤. own.clauses 𝓤) (λ κs r e. r)
+own-once M 𝓤 H A mem run κs a g = (_, λ r e. alone 𝓤)
+
+pub line-lost-once : Once line-lost.ended (λ M 𝓤. line-lost.clauses 𝓤) (λ κs r e. r)
+line-lost-once M 𝓤 H A mem run κs a g = (_, λ r e. alone 𝓤)
+
+pub rejected-once : Once rejected.ended (λ M 𝓤. rejected.clauses 𝓤) (λ κs r e. r)
+rejected-once M 𝓤 H A mem run κs a g = (_, λ r e. alone 𝓤)
+
+pub passed-once : Once passed.ended (λ M 𝓤. passed.clauses 𝓤) (λ κs r e. r)
+passed-once M 𝓤 H A mem run κs a g = (_, λ r e. alone 𝓤)
+
+pub findings-of-once : Once findings-of.ended (λ M 𝓤. findings-of.clauses 𝓤) (λ κs r e. r)
+findings-of-once M 𝓤 H A mem run κs a g = (_, λ r e. by 𝓤 (λ p. sym (known-facts r) ∙ ap known p))
+
+pub judge-once : Once judge.ended (λ M 𝓤. judge.clauses 𝓤) (λ κs r e. r)
+judge-once M 𝓤 H A mem run κs a g = (_, λ r e. alone 𝓤)
+
+pub word-tag-once : Once word-tag.ended (λ M 𝓤. word-tag.clauses 𝓤) (λ κs r e. r)
+word-tag-once M 𝓤 H A mem run κs a g = (_, λ r e. alone 𝓤)

@@ -1,31 +1,29 @@
--- No second answer satisfies a promise of this crate.
-use mathlib.Core.Path.{_≡_, refl, sym, _∙_}
-use mathlib.Core.List.{List}
-use Prim.Native.Nat.{ℕ}
-use Rattle.field.specs.Look.{lookIn}
-use Rattle.field.specs.declared.Scan.{Scan}
-use Rattle.answer.specs.declared.Setup.{Setup}
-use Rattle.answer.specs.declared.Kind.{Kind}
-use Rattle.table.specs.declared.Given.{Given}
+-- No second answer satisfies the contract of a public function: proved of the contract itself (octet's Once.antt).
+use mathlib.Core.Path.{_≡_, refl, sym, ap, _∙_}
+use mathlib.Core.Option.{Option, none, some}
+use Rattle.answer.specs.declared.Fault.{Fault}
 use Rattle.table.specs.declared.Judgement.{Judgement}
 use Rattle.table.specs.declared.Judgement.the-variants.{Fine, Faulty}
-use Rattle.table.specs.Rows.{kindOf}
-use Rattle.table.specs.Steps.{numberOf, firstFault, found}
-
-pub kind-of-once : (setup : Setup) (t : List ℕ) (r r′ : Kind) → r ≡ kindOf setup t → r′ ≡ kindOf setup t → r ≡ r′
-kind-of-once setup t r r′ p q = p ∙ sym q
+use Rattle.table.specs.Steps.{found}
+use Rattle.octet.proofs.Once.{Once, alone, by, first}
+use Rattle.table.proofs.rows.kind_of as kind-of
+use Rattle.table.proofs.walk.number_at as number-at
+use Rattle.table.proofs.fault_in as fault-in
 
 -- a judgement is known by its fault
-pub found-once : (r r′ : Judgement) → found r ≡ found r′ → r ≡ r′
-found-once Fine Fine e = refl
-found-once Fine (Faulty f) e = cc
-found-once (Faulty f) Fine e = cc
-found-once (Faulty f) (Faulty g) e = cc
+abbrev pub judged : Option Fault → Judgement
+judged none = Fine
+judged (some f) = Faulty f
 
-module _ (body index : List ℕ) where
-  pub number-at-once : (tag r r′ : ℕ) → r ≡ numberOf (lookIn body index) tag → r′ ≡ numberOf (lookIn body index) tag → r ≡ r′
-  number-at-once tag r r′ p q = p ∙ sym q
+pub judged-found : (r : Judgement) → judged (found r) ≡ r
+judged-found Fine = refl
+judged-found (Faulty f) = refl
 
-  pub fault-in-once : (setup : Setup) (given : Given) (kind : Kind) (scan : Scan) (r r′ : Judgement)
-      → found r ≡ firstFault setup given scan kind (lookIn body index) → found r′ ≡ firstFault setup given scan kind (lookIn body index) → r ≡ r′
-  fault-in-once setup given kind scan r r′ p q = found-once r r′ (p ∙ sym q)
+pub kind-of-once : Once kind-of.ended (λ M 𝓤. kind-of.clauses 𝓤) (λ κs r e. r)
+kind-of-once M 𝓤 H A mem run κs a g = (_, λ r e. alone 𝓤)
+
+pub number-at-once : Once number-at.ended (λ M 𝓤. number-at.clauses 𝓤) (λ κs r e. r)
+number-at-once M 𝓤 H A mem run κs a g = (_, λ r e. first 𝓤 _ _)
+
+pub fault-in-once : Once fault-in.ended (λ M 𝓤. fault-in.clauses 𝓤) (λ κs r e. r)
+fault-in-once M 𝓤 H A mem run κs a g = (_, λ r e. by 𝓤 (λ p. sym (judged-found r) ∙ ap judged p))

@@ -1,16 +1,46 @@
--- No second answer satisfies a promise of this crate: each is one equation.
-use mathlib.Core.Path.{_≡_, sym, _∙_}
-use Rattle.tally.specs.Tally.{tallied, none-yet}
-use Rattle.tally.specs.declared.Tally.{Tally}
-use Rattle.answer.specs.declared.Outcome.{Outcome}
+-- No second answer, and no second lent tally, satisfy the contract of a public function: proved of the contract itself (octet's Once.antt).
+use Rattle.octet.proofs.Once.{Once, alone}
+use Rattle.tally.proofs.Tally.new as new
+use Rattle.tally.proofs.Tally.one_booked as one-booked
+use Rattle.tally.proofs.Tally.one_already as one-already
+use Rattle.tally.proofs.Tally.one_rejected as one-rejected
+use Rattle.tally.proofs.Tally.one_garbled as one-garbled
+use Rattle.tally.proofs.Tally.after as after
+use Rattle.tally.proofs.count_booked as count-booked
+use Rattle.tally.proofs.count_already as count-already
+use Rattle.tally.proofs.count_rejected as count-rejected
+use Rattle.tally.proofs.count_garbled as count-garbled
+use Rattle.tally.proofs.count as count
 
-pub new-once : {r r′ : Tally} → r ≡ none-yet → r′ ≡ none-yet → r ≡ r′
-new-once p q = p ∙ sym q
+pub new-once : Once new.ended (λ M 𝓤. new.clauses 𝓤) (λ κs r e. r)
+new-once M 𝓤 H A mem run κs a g = (_, λ r e. alone 𝓤)
 
--- the four counts, by value (one_booked, one_already, one_rejected, one_garbled) and lent (count_booked, count_already, count_rejected, count_garbled: r is the tally at exit, t at entry)
-pub count-once : (count : Tally → Tally) (t : Tally) {r r′ : Tally} → r ≡ count t → r′ ≡ count t → r ≡ r′
-count-once count t p q = p ∙ sym q
+pub one-booked-once : Once one-booked.ended (λ M 𝓤. one-booked.clauses 𝓤) (λ κs r e. r)
+one-booked-once M 𝓤 H A mem run κs a g = (_, λ r e. alone 𝓤)
 
--- by what became of a message: by value (after) and lent (count: r is the tally at exit, t at entry)
-pub after-once : (o : Outcome) (t : Tally) {r r′ : Tally} → r ≡ tallied o t → r′ ≡ tallied o t → r ≡ r′
-after-once o t p q = p ∙ sym q
+pub one-already-once : Once one-already.ended (λ M 𝓤. one-already.clauses 𝓤) (λ κs r e. r)
+one-already-once M 𝓤 H A mem run κs a g = (_, λ r e. alone 𝓤)
+
+pub one-rejected-once : Once one-rejected.ended (λ M 𝓤. one-rejected.clauses 𝓤) (λ κs r e. r)
+one-rejected-once M 𝓤 H A mem run κs a g = (_, λ r e. alone 𝓤)
+
+pub one-garbled-once : Once one-garbled.ended (λ M 𝓤. one-garbled.clauses 𝓤) (λ κs r e. r)
+one-garbled-once M 𝓤 H A mem run κs a g = (_, λ r e. alone 𝓤)
+
+pub after-once : Once after.ended (λ M 𝓤. after.clauses 𝓤) (λ κs r e. r)
+after-once M 𝓤 H A mem run κs a g = (_, λ r e. alone 𝓤)
+
+pub count-booked-once : Once count-booked.ended (λ M 𝓤. count-booked.clauses 𝓤) (λ κs r e. e .0 .now)
+count-booked-once M 𝓤 H A mem run κs a g = (_, λ r e. alone 𝓤)
+
+pub count-already-once : Once count-already.ended (λ M 𝓤. count-already.clauses 𝓤) (λ κs r e. e .0 .now)
+count-already-once M 𝓤 H A mem run κs a g = (_, λ r e. alone 𝓤)
+
+pub count-rejected-once : Once count-rejected.ended (λ M 𝓤. count-rejected.clauses 𝓤) (λ κs r e. e .0 .now)
+count-rejected-once M 𝓤 H A mem run κs a g = (_, λ r e. alone 𝓤)
+
+pub count-garbled-once : Once count-garbled.ended (λ M 𝓤. count-garbled.clauses 𝓤) (λ κs r e. e .0 .now)
+count-garbled-once M 𝓤 H A mem run κs a g = (_, λ r e. alone 𝓤)
+
+pub count-once : Once count.ended (λ M 𝓤. count.clauses 𝓤) (λ κs r e. e .0 .now)
+count-once M 𝓤 H A mem run κs a g = (_, λ r e. alone 𝓤)

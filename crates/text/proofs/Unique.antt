@@ -1,37 +1,67 @@
--- No second answer satisfies a promise, and no second lent bytes: each promise is an equation with its definition.
---     read-digits-once, byte-sum-once, new-once     what is read, and the text with no bytes
---     puts-once     every method that puts more to a text (put, part, decimal, price)
---     put-at-once     every function that puts more to bytes that are lent (put_at, part_at, fixed_at, field_at, number_at, letter_at): the bytes and the length
---     place-once     where a text is placed, the bytes and the place after it
-use mathlib.Core.Path.{_≡_, sym, ap, _∙_}
-use mathlib.Core.Bool.{cond}
+-- No second answer, and no second lent bytes, satisfy the contract of a public function: proved of the contract itself (octet's Once.antt).
+use mathlib.Core.Path.{_≡_, ap}
 use mathlib.Core.List.{List}
-use Prim.Native.Nat.{ℕ, _+_}
-use lib.ListN.{length}
-use Rattle.octet.specs.Splice.{splice, fitsAt}
-use Rattle.text.specs.Decimal.{digitsAtFront, checkSum}
-use Rattle.text.specs.Writing.{textWith, empty, puts, held}
-use Rattle.text.specs.declared.Digits.{Digits}
+use Prim.Native.Nat.{ℕ}
+use Rattle.text.specs.Writing.{textWith}
 use Rattle.text.specs.declared.Text.{Text}
+use Rattle.octet.proofs.Once.{Once, alone, by, both, first, joined, _&_}
+use Rattle.text.proofs.Text.new as new
+use Rattle.text.proofs.Text.put as put
+use Rattle.text.proofs.Text.part as part
+use Rattle.text.proofs.Text.decimal as decimal
+use Rattle.text.proofs.Text.price as price
+use Rattle.text.proofs.Text.place as place
+use Rattle.text.proofs.put_at as put-at
+use Rattle.text.proofs.part_at as part-at
+use Rattle.text.proofs.fixed_at as fixed-at
+use Rattle.text.proofs.field_at as field-at
+use Rattle.text.proofs.number_at as number-at
+use Rattle.text.proofs.letter_at as letter-at
+use Rattle.text.proofs.read_digits as read-digits
+use Rattle.text.proofs.byte_sum as byte-sum
 
-pub read-digits-once : (most : ℕ) (s : List ℕ) (p q : Digits) → p ≡ digitsAtFront most s → q ≡ digitsAtFront most s → p ≡ q
-read-digits-once most s p q h g = h ∙ sym g
+-- a text in lent bytes is known by its length and its bytes
+apart : {b : List ℕ} {n : ℕ} {t : Text} → textWith b n ≡ t → n & b ≡ t .len & t .bytes
+apart p = both (ap (λ (u : Text). u .len) p) (ap (λ (u : Text). u .bytes) p)
 
-pub byte-sum-once : (s : List ℕ) (p q : ℕ) → p ≡ checkSum s → q ≡ checkSum s → p ≡ q
-byte-sum-once s p q h g = h ∙ sym g
+pub new-once : Once new.ended (λ M 𝓤. new.clauses 𝓤) (λ κs r e. r)
+new-once M 𝓤 H A mem run κs a g = (_, λ r e. alone 𝓤)
 
-pub new-once : (p q : Text) → p ≡ empty → q ≡ empty → p ≡ q
-new-once p q h g = h ∙ sym g
+pub put-once : Once put.ended (λ M 𝓤. put.clauses 𝓤) (λ κs r e. r)
+put-once M 𝓤 H A mem run κs a g = (_, λ r e. alone 𝓤)
 
-pub puts-once : (t : Text) (more : List ℕ) (p q : Text) → p ≡ puts t more → q ≡ puts t more → p ≡ q
-puts-once t more p q h g = h ∙ sym g
+pub part-once : Once part.ended (λ M 𝓤. part.clauses 𝓤) (λ κs r e. r)
+part-once M 𝓤 H A mem run κs a g = (_, λ r e. alone 𝓤)
 
-pub put-at-once : (t : Text) (more left left′ : List ℕ) (r r′ : ℕ) → textWith left r ≡ puts t more → textWith left′ r′ ≡ puts t more → (left ≡ left′) × (r ≡ r′)
-put-at-once t more left left′ r r′ h g = (ap (λ (u : Text). u .bytes) (h ∙ sym g), ap (λ (u : Text). u .len) (h ∙ sym g))
+pub decimal-once : Once decimal.ended (λ M 𝓤. decimal.clauses 𝓤) (λ κs r e. r)
+decimal-once M 𝓤 H A mem run κs a g = (_, λ r e. alone 𝓤)
 
--- what `place` promises of the bytes that it leaves and of its answer
-abbrev Placed : Text → List ℕ → ℕ → List ℕ → ℕ → Type 0
-Placed t dst at left r = (left ≡ splice dst at (held t)) × (r ≡ cond (fitsAt dst at (held t)) (at + length (held t)) at)
+pub price-once : Once price.ended (λ M 𝓤. price.clauses 𝓤) (λ κs r e. r)
+price-once M 𝓤 H A mem run κs a g = (_, λ r e. alone 𝓤)
 
-pub place-once : (t : Text) (dst : List ℕ) (at : ℕ) (left left′ : List ℕ) (r r′ : ℕ) → Placed t dst at left r → Placed t dst at left′ r′ → (left ≡ left′) × (r ≡ r′)
-place-once t dst at left left′ r r′ h g = (h .0 ∙ sym (g .0), h .1 ∙ sym (g .1))
+pub place-once : Once place.ended (λ M 𝓤. place.clauses 𝓤) (λ κs r e. r & e .1 .0 .now)
+place-once M 𝓤 H A mem run κs a g = (_, λ r e. joined 𝓤 _ _ (alone 𝓤) (alone 𝓤))
+
+pub put-at-once : Once put-at.ended (λ M 𝓤. put-at.clauses 𝓤) (λ κs r e. r & e .0 .now)
+put-at-once M 𝓤 H A mem run κs a g = (_, λ r e. by 𝓤 apart)
+
+pub part-at-once : Once part-at.ended (λ M 𝓤. part-at.clauses 𝓤) (λ κs r e. r & e .0 .now)
+part-at-once M 𝓤 H A mem run κs a g = (_, λ r e. by 𝓤 apart)
+
+pub fixed-at-once : Once fixed-at.ended (λ M 𝓤. fixed-at.clauses 𝓤) (λ κs r e. r & e .0 .now)
+fixed-at-once M 𝓤 H A mem run κs a g = (_, λ r e. by 𝓤 apart)
+
+pub field-at-once : Once field-at.ended (λ M 𝓤. field-at.clauses 𝓤) (λ κs r e. r & e .0 .now)
+field-at-once M 𝓤 H A mem run κs a g = (_, λ r e. by 𝓤 apart)
+
+pub number-at-once : Once number-at.ended (λ M 𝓤. number-at.clauses 𝓤) (λ κs r e. r & e .0 .now)
+number-at-once M 𝓤 H A mem run κs a g = (_, λ r e. by 𝓤 apart)
+
+pub letter-at-once : Once letter-at.ended (λ M 𝓤. letter-at.clauses 𝓤) (λ κs r e. r & e .0 .now)
+letter-at-once M 𝓤 H A mem run κs a g = (_, λ r e. by 𝓤 apart)
+
+pub read-digits-once : Once read-digits.ended (λ M 𝓤. read-digits.clauses 𝓤) (λ κs r e. r)
+read-digits-once M 𝓤 H A mem run κs a g = (_, λ r e. first 𝓤 _ _)
+
+pub byte-sum-once : Once byte-sum.ended (λ M 𝓤. byte-sum.clauses 𝓤) (λ κs r e. r)
+byte-sum-once M 𝓤 H A mem run κs a g = (_, λ r e. alone 𝓤)
