@@ -13,22 +13,21 @@ use Rattle.session.specs.Judging.{judgedBy, judge}
 use Rattle.session.specs.declared.Session.{Session}
 use Rattle.session.specs.declared.Verdict.{Verdict}
 use Rattle.tally.specs.declared.Tally.{Tally}
-use Rattle.receiver.specs.State.{State}
+use Rattle.receiver.specs.State.{State, Did}
 use Rattle.receiver.specs.Receiver.{What, Lent, does, call}
-use Rattle.receiver.specs.Steps.{Taken}
-use Rattle.receiver.specs.declared.Received.{Received}
+use Rattle.receiver.specs.Steps.{Entered, Taken}
+use Rattle.receiver.specs.declared.Told.{Told}
 use Rattle.bench.specs.Timed.{wordOf, Timed, scanNumber, Indexed}
 
 -- what a call does is the same whatever the tally was
-pub timed-call : (setup : Setup) (st : State) (b : Lent) (t : Tally) (w : What) {x : Received} {r : ℕ} {book book′ reply reply′ note note′ : List ℕ}
-    → Taken (call setup st b t w) x book book′ reply reply′ note note′ → r ≡ wordOf (x .told) → Timed (does setup st b w) r book book′ reply reply′ note note′
+pub heard-of : (setup : Setup) (st : State) (b : Lent) (t : Tally) (w : What) {x : Told} {t′ : Tally} {book book′ reply reply′ note note′ : List ℕ}
+    → Taken (call setup st b t w) x t′ book book′ reply reply′ note note′ → Entered (does setup st b w) x book book′ reply reply′ note note′
 unfolding call
-timed-call setup st b t w k e = record {
-  told = e ∙ ap wordOf (k .entered .written .told);
-  booked = k .entered .booked;
-  replied = k .entered .written .replied;
-  noted = k .entered .written .noted;
-}
+heard-of setup st b t w k = k .entered
+
+pub timed-call : {d : Did} {t : Told} {r : ℕ} {book book′ reply reply′ note note′ : List ℕ} → Entered d t book book′ reply reply′ note note′ → r ≡ wordOf t
+    → Timed d r book book′ reply reply′ note note′
+timed-call k e = record { told = e ∙ ap wordOf (k .written .told); booked = k .booked; replied = k .written .replied; noted = k .written .noted }
 
 -- a session judges a body by its index as it judges the pieces
 pub judged-body : {setup setup′ : Setup} {s s′ : Session} (body : List ℕ) {scan : Scan} {index : List ℕ} {fs : Facts} {v : Verdict} → setup ≡ setup′ → s ≡ s′

@@ -25,6 +25,7 @@ ghost use Rattle.book.specs.Admitting.{admitOf};
 ghost use Rattle.frame.specs.Finding.{foundIn};
 ghost use Rattle.restart.specs.Restart.{restart, told, wholeIn, bookAfter};
 ghost use Rattle.listing.specs.Listing.{Lists};
+ghost use Rattle.receiver.specs.Steps.{Heard};
 ghost use Rattle.bench.specs.Timed.{agreed, online, becameNumber, wordOf, TimedMessage, lengthOf, Indexed, verdictNumber, admittedNumber};
 
 // The number of what became of a framed message, 0 for every other answer.
@@ -93,6 +94,26 @@ fn online(e: u32, fills: u32, orders: u32) -> State
     }
 }
 
+// The message call, lent a tally of our own.
+fn lend(
+    setup: Setup,
+    st: State,
+    tally: Tally,
+    time: &[u8],
+    bytes: &[u8],
+    book: &mut [u8; BOOK],
+    reply: &mut [u8],
+    note: &mut [u8],
+) -> Told
+    ensures { λ r. ⌜
+        Heard setup st (now (time .entry)) (now (bytes .entry)) r
+        (now (book .entry)) (now (book .exit)) (now (reply .entry)) (now (reply .exit)) (now (note .entry)) (now (note .exit))
+        ⌝ }
+{
+    let mut lent = tally;
+    receiver::message(setup, st, &mut lent, time, bytes, book, reply, note)
+}
+
 // The message call.
 #[no_mangle]
 pub extern "C" fn bench_message(
@@ -114,7 +135,7 @@ pub extern "C" fn bench_message(
         (now (book .entry)) (now (book .exit)) (now (reply .entry)) (now (reply .exit)) (now (note .entry)) (now (note .exit))
         ⌝ }
 {
-    let received = receiver::message(
+    let told = lend(
         agreed(*ours, n, *theirs, k),
         online(e, fills, orders),
         Tally::new(),
@@ -124,7 +145,7 @@ pub extern "C" fn bench_message(
         reply,
         note,
     );
-    word_of(received.told)
+    word_of(told)
 }
 
 // A restart into the lent book.

@@ -1,13 +1,16 @@
 // A call, handed to the receiver.
+use super::Came;
 use super::World;
 use super::script::Ask;
 use super::script::Ledger;
+use answer::Setup;
 use book::BOOK;
-use receiver::Received;
+use receiver::State;
 use receiver::Told;
 use session::Own;
 use tally::Tally;
 ghost use Rattle.io.specs.Counts.{Counts};
+ghost use Rattle.receiver.specs.Steps.{Messaged};
 
 // The bytes from place a to place b.
 pub(crate) fn between(s: &[u8], a: usize, b: usize) -> &[u8] {
@@ -29,16 +32,25 @@ fn own_call(w: World, own: Own, time: &[u8], reply: &mut [u8], note: &mut [u8]) 
     }
 }
 
-// The message call.
+// The message call, lent a tally of our own.
 fn message_call(
-    w: World,
+    setup: Setup,
+    st: State,
+    tally: Tally,
     time: &[u8],
     given: &[u8],
     book: &mut [u8; BOOK],
     reply: &mut [u8],
     note: &mut [u8],
-) -> Received {
-    receiver::message(w.setup, w.state, w.tally, time, given, book, reply, note)
+) -> Came
+    ensures { λ r. ⌜
+        Messaged setup st tally (now (time .entry)) (now (given .entry)) (r .told) (r .tally)
+        (now (book .entry)) (now (book .exit)) (now (reply .entry)) (now (reply .exit)) (now (note .entry)) (now (note .exit))
+        ⌝ }
+{
+    let mut lent = tally;
+    let told = receiver::message(setup, st, &mut lent, time, given, book, reply, note);
+    Came { told, tally: lent }
 }
 
 // The ledger's calls, the new day and the restart.
@@ -62,8 +74,8 @@ fn ledger_call(
 }
 
 // What a call that counts nothing hands back.
-fn beside(told: Told, tally: Tally) -> Received {
-    Received { told, tally }
+fn beside(told: Told, tally: Tally) -> Came {
+    Came { told, tally }
 }
 
 // How much of a buffer is lent.
@@ -85,7 +97,7 @@ pub(crate) fn hand(
     reply: &mut [u8],
     note: &mut [u8],
     listed: &mut [u8],
-) -> Received {
+) -> Came {
     let sizes = w.sizes;
     let r = lent_of(sizes.reply, reply);
     let n = lent_of(sizes.note, note);
@@ -103,7 +115,16 @@ pub(crate) fn hand(
         Ask::Message(middle, end) => {
             let time = between(bytes, 0, middle);
             let given = between(bytes, middle, end);
-            message_call(w, time, given, book, &mut reply[..r], &mut note[..n])
+            message_call(
+                w.setup,
+                w.state,
+                tally,
+                time,
+                given,
+                book,
+                &mut reply[..r],
+                &mut note[..n],
+            )
         }
         Ask::Ledger(ask) => beside(
             ledger_call(w, ask, bytes, book, &mut note[..n], &mut listed[..l]),

@@ -10,6 +10,7 @@ mod reading; // standard input, line by line
 use answer::Setup;
 use book::BOOK;
 use receiver::State;
+use receiver::Told;
 use tally::Tally;
 
 // The most bytes of a line of a script, of the journal, and of a buffer that is lent.
@@ -36,6 +37,12 @@ struct World {
     journal: usize,
     sizes: Sizes,
     written: bool,
+}
+
+// What came back of a call, and the tally after it.
+struct Came {
+    told: Told,
+    tally: Tally,
 }
 
 // The sum, or the last number there is.

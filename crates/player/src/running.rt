@@ -1,4 +1,5 @@
 // Running a line: a call is made with lent buffers, what came back is kept and shown, and any other line is answered.
+use super::Came;
 use super::LENT;
 use super::Sizes;
 use super::World;
@@ -16,7 +17,6 @@ use answer::Setup;
 use book::BOOK;
 use receiver::Answer;
 use receiver::Leave;
-use receiver::Received;
 use receiver::State;
 use receiver::Told;
 use tally::Tally;
@@ -160,7 +160,7 @@ fn show_call(told: Told, tally: Tally, reply: &[u8], note: &[u8], listed: &[u8])
 // the call stands, and a slot that was written past its fills is none of them.
 fn finish(
     w: World,
-    came: Received,
+    came: Came,
     bytes: &[u8],
     journal: &mut [u8],
     reply: &[u8],

@@ -23,7 +23,7 @@ use Rattle.book.specs.declared.Placed.the-variants as placed
 use Rattle.note.specs.Notes.{Books}
 use Rattle.report.specs.Report.{reportIn, slotIn, ruleFault}
 use Rattle.session.specs.Reading.{seqGiven, idsGiven}
-use Rattle.tally.specs.Tally.{tallied}
+use Rattle.tally.specs.Tally.{countOf, tallied}
 use Rattle.tally.specs.declared.Tally.{Tally}
 use Rattle.receiver.specs.State.{State}
 use Rattle.receiver.specs.Receiver.{Message, Lent, Result, call}
@@ -85,7 +85,7 @@ bookedResult st t len f = record {
     note = some (Books (st .kept .e + 1) (st .kept .o) f);
     line = [];
   };
-  tally = tallied (bookedOutcome st f) t;
+  tally = tallied (countOf (bookedOutcome st f)) t;
 }
 
 -- the fill has what the report says

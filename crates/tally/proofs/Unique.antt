@@ -5,7 +5,7 @@ use Rattle.tally.proofs.Tally.one_booked as one-booked
 use Rattle.tally.proofs.Tally.one_already as one-already
 use Rattle.tally.proofs.Tally.one_rejected as one-rejected
 use Rattle.tally.proofs.Tally.one_garbled as one-garbled
-use Rattle.tally.proofs.Tally.after as after
+use Rattle.tally.proofs.count_of as count-of
 use Rattle.tally.proofs.count_booked as count-booked
 use Rattle.tally.proofs.count_already as count-already
 use Rattle.tally.proofs.count_rejected as count-rejected
@@ -27,8 +27,8 @@ one-rejected-once M 𝓤 H A mem run κs a g = (_, λ r e. alone 𝓤)
 pub one-garbled-once : Once one-garbled.ended (λ M 𝓤. one-garbled.clauses 𝓤) (λ κs r e. r)
 one-garbled-once M 𝓤 H A mem run κs a g = (_, λ r e. alone 𝓤)
 
-pub after-once : Once after.ended (λ M 𝓤. after.clauses 𝓤) (λ κs r e. r)
-after-once M 𝓤 H A mem run κs a g = (_, λ r e. alone 𝓤)
+pub count-of-once : Once count-of.ended (λ M 𝓤. count-of.clauses 𝓤) (λ κs r e. r)
+count-of-once M 𝓤 H A mem run κs a g = (_, λ r e. alone 𝓤)
 
 pub count-booked-once : Once count-booked.ended (λ M 𝓤. count-booked.clauses 𝓤) (λ κs r e. e .0 .now)
 count-booked-once M 𝓤 H A mem run κs a g = (_, λ r e. alone 𝓤)

@@ -4,6 +4,8 @@ use Rattle.answer.specs.Numbers.{counted}
 use Rattle.answer.specs.declared.Outcome.{Outcome}
 use Rattle.answer.specs.declared.Outcome.the-variants as outcome
 use Rattle.tally.specs.declared.Tally.{Tally}
+use Rattle.tally.specs.declared.Which.{Which}
+use Rattle.tally.specs.declared.Which.the-variants.{Booked, Already, Rejected, Garbled, Nothing}
 
 abbrev pub none-yet : Tally
 none-yet = record { booked = 0; already = 0; rejected = 0; garbled = 0 }
@@ -24,18 +26,26 @@ oneRejected t = record { booked = t .booked; already = t .already; rejected = up
 abbrev pub oneGarbled : Tally → Tally
 oneGarbled t = record { booked = t .booked; already = t .already; rejected = t .rejected; garbled = up (t .garbled) }
 
--- a framed message, by what became of it
-unfoldable pub tallied : Outcome → Tally → Tally
-tallied (outcome.Booked n step) t = oneBooked t
-tallied outcome.Already t = oneAlready t
-tallied (outcome.Rejected f) t = oneRejected t
-tallied (outcome.RejectedEnded f) t = oneRejected t
-tallied outcome.Ended t = t
-tallied outcome.Dropped t = t
-tallied outcome.Gap t = t
-tallied outcome.In t = t
-tallied outcome.Heard t = t
-tallied outcome.Echoed t = t
-tallied outcome.Filled t = t
-tallied (outcome.Moved n) t = t
-tallied outcome.Aside t = t
+-- which count a framed message raises, by what became of it: "rejected (a Reject written)", whether or not the session goes on
+abbrev pub countOf : Outcome → Which
+countOf (outcome.Booked n step) = Booked
+countOf outcome.Already = Already
+countOf (outcome.Rejected f) = Rejected
+countOf (outcome.RejectedEnded f) = Rejected
+countOf outcome.Ended = Nothing
+countOf outcome.Dropped = Nothing
+countOf outcome.Gap = Nothing
+countOf outcome.In = Nothing
+countOf outcome.Heard = Nothing
+countOf outcome.Echoed = Nothing
+countOf outcome.Filled = Nothing
+countOf (outcome.Moved n) = Nothing
+countOf outcome.Aside = Nothing
+
+-- the tally with that count one up
+abbrev pub tallied : Which → Tally → Tally
+tallied Booked t = oneBooked t
+tallied Already t = oneAlready t
+tallied Rejected t = oneRejected t
+tallied Garbled t = oneGarbled t
+tallied Nothing t = t

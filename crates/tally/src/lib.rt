@@ -2,13 +2,22 @@
 use answer::Outcome;
 use answer::count_on;
 ghost use mathlib.Core.Path.{_≡_};
-ghost use Rattle.tally.specs.Tally.{up, none-yet, oneBooked, oneAlready, oneRejected, oneGarbled, tallied};
+ghost use Rattle.tally.specs.Tally.{up, none-yet, oneBooked, oneAlready, oneRejected, oneGarbled, countOf, tallied};
 
 pub struct Tally {
     pub booked: u32,
     pub already: u32,
     pub rejected: u32,
     pub garbled: u32,
+}
+
+// "booked, already booked, rejected (a Reject written) and garbled": the count that an answer raises, where it raises one.
+pub enum Which {
+    Booked,
+    Already,
+    Rejected,
+    Garbled,
+    Nothing,
 }
 
 // One more; a count stops at its last number.
@@ -73,30 +82,9 @@ impl Tally {
             garbled: up(self.garbled),
         }
     }
-
-    // The tally after a framed message, by what became of it.
-    pub fn after(self, outcome: Outcome) -> Tally
-        ensures { λ r. ⌜ r ≡ tallied outcome self ⌝ }
-    {
-        match outcome {
-            Outcome::Booked(_, _) => self.one_booked(),
-            Outcome::Already => self.one_already(),
-            Outcome::Rejected(_) => self.one_rejected(),
-            Outcome::RejectedEnded(_) => self.one_rejected(),
-            Outcome::Ended => self,
-            Outcome::Dropped => self,
-            Outcome::Gap => self,
-            Outcome::In => self,
-            Outcome::Heard => self,
-            Outcome::Echoed => self,
-            Outcome::Filled => self,
-            Outcome::Moved(_) => self,
-            Outcome::Aside => self,
-        }
-    }
 }
 
-// "lent by the caller and brought up to date": one thin function for each answer that counts, over the sister that takes the tally by value.
+// "lent by the caller and brought up to date": one thin function for each count, over the sister that takes the tally by value.
 pub fn count_booked(t: &mut Tally)
     ensures { λ _. ⌜ now (t .exit) ≡ oneBooked (now (t .entry)) ⌝ }
 {
@@ -121,23 +109,36 @@ pub fn count_garbled(t: &mut Tally)
     *t = (*t).one_garbled();
 }
 
-// The lent tally after a framed message, by what became of it.
-pub fn count(t: &mut Tally, outcome: Outcome)
-    ensures { λ _. ⌜ now (t .exit) ≡ tallied outcome (now (t .entry)) ⌝ }
+// Which count a framed message raises, by what became of it.
+pub fn count_of(outcome: Outcome) -> Which
+    ensures { λ r. ⌜ r ≡ countOf outcome ⌝ }
 {
     match outcome {
-        Outcome::Booked(_, _) => count_booked(t),
-        Outcome::Already => count_already(t),
-        Outcome::Rejected(_) => count_rejected(t),
-        Outcome::RejectedEnded(_) => count_rejected(t),
-        Outcome::Ended => {}
-        Outcome::Dropped => {}
-        Outcome::Gap => {}
-        Outcome::In => {}
-        Outcome::Heard => {}
-        Outcome::Echoed => {}
-        Outcome::Filled => {}
-        Outcome::Moved(_) => {}
-        Outcome::Aside => {}
+        Outcome::Booked(_, _) => Which::Booked,
+        Outcome::Already => Which::Already,
+        Outcome::Rejected(_) => Which::Rejected,
+        Outcome::RejectedEnded(_) => Which::Rejected,
+        Outcome::Ended => Which::Nothing,
+        Outcome::Dropped => Which::Nothing,
+        Outcome::Gap => Which::Nothing,
+        Outcome::In => Which::Nothing,
+        Outcome::Heard => Which::Nothing,
+        Outcome::Echoed => Which::Nothing,
+        Outcome::Filled => Which::Nothing,
+        Outcome::Moved(_) => Which::Nothing,
+        Outcome::Aside => Which::Nothing,
+    }
+}
+
+// The lent tally, "brought up to date": the count that is raised, by its thin function.
+pub fn count(t: &mut Tally, which: Which)
+    ensures { λ _. ⌜ now (t .exit) ≡ tallied which (now (t .entry)) ⌝ }
+{
+    match which {
+        Which::Booked => count_booked(t),
+        Which::Already => count_already(t),
+        Which::Rejected => count_rejected(t),
+        Which::Garbled => count_garbled(t),
+        Which::Nothing => {}
     }
 }

@@ -4,7 +4,7 @@ use Rattle.bench.proofs.bench_message.Statement.{statement}
 use Rattle.bench.proofs.bench_message.Tie as tie
 
 returns : tie.Need-returns
-returns c = rw (← c .before .before .before .before .before .before .before .before .before .before .before .agreed .ensures, ← c .before .before .before .before .before .before .before .before .before .before .online .ensures) (timed-call _ _ _ _ _ (c .before .before .before .before .before .message .ensures) (c .word-of .ensures))
+returns c = rw (← c .before .before .before .before .before .before .before .before .before .before .before .agreed .ensures, ← c .before .before .before .before .before .before .before .before .before .before .online .ensures) (timed-call (c .before .before .before .before .before .lend .ensures) (c .word-of .ensures))
 
 pub bench-message-spec : {M : Type 1} → statement M
 bench-message-spec =
