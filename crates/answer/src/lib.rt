@@ -1,7 +1,7 @@
 // What several crates are told or answer with: set-up, phase, type of message, fault, outcome, refusal, with the paper's number for each case; and
 // the numbers that the paper says more than once.
-pub mod tags;
 pub mod reasons;
+pub mod tags;
 
 ghost use mathlib.Core.Path.{_≡_};
 ghost use Rattle.answer.specs.Numbers.{fault, counted, phaseNumber, refusalNumber, outcomeNumber};

@@ -10,7 +10,7 @@ use native.Mathlib.Omega.{arith}
 use Rattle.answer.specs.Numbers.{largest, counted}
 use Rattle.answer.specs.declared.Outcome.{Outcome}
 use Rattle.answer.specs.declared.Outcome.the-variants as outcome
-use Rattle.tally.specs.Tally.{up, oneBooked, oneAlready, oneRejected, oneGarbled, tallied}
+use Rattle.tally.specs.Tally.{up, oneBooked, oneAlready, oneRejected, oneGarbled}
 use Rattle.tally.specs.declared.Tally.{Tally}
 use Rattle.receiver.specs.Receiver.{What, tallyAfter}
 use Rattle.receiver.specs.declared.Answer.{Answer}
@@ -55,7 +55,6 @@ module _ (t : Tally) (f : FourBytes t) where
   garbles = record { booked = same _ (f .0); already = same _ (f .1); rejected = same _ (f .2); garbled = refl }
 
   framed : (len : ℕ) (o : Outcome) → let a = Framed len o in Raised (isBooked a) (isAlready a) (isRejected a) (isGarbled a) t (tallyAfter a t)
-  unfolding tallied
   framed len outcome.Ended = idle
   framed len (outcome.Rejected x) = rejects
   framed len (outcome.RejectedEnded x) = rejects
@@ -71,7 +70,6 @@ module _ (t : Tally) (f : FourBytes t) where
   framed len (outcome.Booked n stepped) = books
 
   after : (a : Answer) → Raised (isBooked a) (isAlready a) (isRejected a) (isGarbled a) t (tallyAfter a t)
-  unfolding tallied
   after Done = idle
   after (Refused why) = idle
   after More = idle

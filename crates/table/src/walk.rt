@@ -167,7 +167,11 @@ fn tag_fault(
     }
     match check_value(body, index, given, form, value_at(body, index, tag)) {
         Check::Good => Judgement::Fine,
-        Check::BadForm(at) => Judgement::Faulty(Fault { reason: reasons::WRONG_FORM, tag, at }),
+        Check::BadForm(at) => Judgement::Faulty(Fault {
+            reason: reasons::WRONG_FORM,
+            tag,
+            at,
+        }),
         Check::OutOfRange => faulty(reasons::WRONG_VALUE, tag),
     }
 }
