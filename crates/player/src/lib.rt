@@ -28,7 +28,7 @@ struct Sizes {
 }
 
 // One receiver and what its caller keeps: the tally, how many bytes of the journal are notes, and what is lent. Before the first `ids` that is
-// not refused there is no receiver. Where the last line of the transcript could not be written, nobody hears of what is run after it.
+// not refused there is no receiver. `written` says whether the last line of the transcript could be: where not, nobody hears of what is run next.
 struct World {
     begun: bool,
     setup: Setup,
