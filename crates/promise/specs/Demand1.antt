@@ -33,7 +33,6 @@ use Rattle.receiver.specs.State.{State, Did, sessionOf, seen, stored, replyAfte
 use Rattle.receiver.specs.Receiver.{What, Message, Restart, Lent, refuse, call, settingUp}
 use Rattle.receiver.specs.Steps.{leaveOf}
 use Rattle.receiver.specs.declared.State.{State as Stored}
-use Rattle.receiver.specs.declared.Answer.{Answer}
 use Rattle.promise.specs.Sort.{whereGiven, Buffers, sortOf, refusedWith}
 use Rattle.promise.specs.World.{isRefused}
 use Rattle.promise.specs.Demand2.{Bookable}

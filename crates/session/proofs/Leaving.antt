@@ -15,7 +15,7 @@ use Rattle.answer.specs.declared.Outcome.the-variants as outcome
 use Rattle.wire.specs.declared.Reply.the-variants.{Nothing}
 use Rattle.session.specs.Session.{judged}
 use Rattle.session.specs.Reading.{Facts, factsIn}
-use Rattle.session.specs.Judging.{ended, rejectedEnded, logon, welcomed, step3, byPhase, step2, step1, judgedBy, judge}
+use Rattle.session.specs.Judging.{ended, rejectedEnded, logon, step3, byPhase, step2, step1, judgedBy, judge}
 use Rattle.session.specs.Leaving.{before4, raises, Steps1to3}
 use Rattle.session.specs.declared.Session.{Session}
 use Rattle.session.specs.declared.Judged.{Judged}
