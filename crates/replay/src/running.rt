@@ -8,8 +8,6 @@ use super::plus;
 use super::script::Ask;
 use super::script::Ledger;
 use super::script::Line;
-use super::transcript::say_answer;
-use super::transcript::say_refusal;
 use super::transcript::show;
 use super::transcript::text_of;
 use answer::Setup;
@@ -90,7 +88,7 @@ fn set_up(w: World, ours: &[u8], theirs: &[u8]) -> World {
     let leave = made.leave;
     match leave {
         Leave::Granted => fresh_world(true, setup).answer(text_of(b"ok")),
-        Leave::Refused(why) => w.answer(say_refusal(why)),
+        Leave::Refused(why) => w.answer(words::say_refusal(Text::new(), why)),
     }
 }
 
@@ -157,7 +155,7 @@ fn finish(
             let replied = octet::part(reply, 0, told.reply);
             let line = octet::part(listed, 0, told.line);
             show(
-                say_answer(answer),
+                words::say_answer(Text::new(), answer),
                 state,
                 tally,
                 replied,
