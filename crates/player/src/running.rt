@@ -9,8 +9,6 @@ use super::plus;
 use super::script::Ask;
 use super::script::Ledger;
 use super::script::Line;
-use super::transcript::say_answer;
-use super::transcript::say_refusal;
 use super::transcript::show;
 use super::transcript::text_of;
 use answer::Setup;
@@ -93,7 +91,7 @@ fn set_up(w: World, ours: &[u8], theirs: &[u8]) -> World {
     let leave = made.leave;
     match leave {
         Leave::Granted => fresh_world(true, setup).answer(text_of(b"ok")),
-        Leave::Refused(why) => w.answer(say_refusal(why)),
+        Leave::Refused(why) => w.answer(words::say_refusal(Text::new(), why)),
     }
 }
 
@@ -146,7 +144,7 @@ fn show_call(told: Told, tally: Tally, reply: &[u8], note: &[u8], listed: &[u8])
     let answer = told.answer;
     let state = told.state;
     show(
-        say_answer(answer),
+        words::say_answer(Text::new(), answer),
         state,
         tally,
         replied,
