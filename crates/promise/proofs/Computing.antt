@@ -41,7 +41,7 @@ unfolding readers.numberRead readers.priceFront readers.priceRead value.badNumbe
 numbers = tt
 
 unfoldable pub values : Unit {0}
-unfolding numbers readers.graphChecked readers.textChecked readers.codeChecked value.badGraph readers.timeChecked value.badTime value.leap value.daysIn value.isDay value.timeFits
+unfolding numbers readers.graphChecked readers.codeChecked value.badGraph readers.timeChecked value.badTime value.leap value.daysIn value.isDay value.timeFits
 values = tt
 
 unfoldable pub framing : Unit {0}
