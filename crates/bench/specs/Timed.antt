@@ -38,12 +38,12 @@ online e fills orders = record {
 }
 
 -- the number of what became of a framed message; 0 for every other answer
-abbrev pub numberIf : Option Outcome → ℕ
-numberIf none = 0
-numberIf (some o) = outcomeNumber o
+abbrev pub numberWhere : Option Outcome → ℕ
+numberWhere none = 0
+numberWhere (some o) = outcomeNumber o
 
 abbrev pub becameNumber : Answer → ℕ
-becameNumber a = numberIf (tellsOf a .became)
+becameNumber a = numberWhere (tellsOf a .became)
 
 -- that number, the length of the reply and that of the note, in one word: each length takes 12 bits of it
 unfoldable pub wordOf : Told → ℕ

@@ -11,8 +11,7 @@ use Rattle.frame.specs.Finding.{foundIn}
 use Rattle.frame.specs.declared.Found.{Found}
 use Rattle.frame.specs.declared.Found.the-variants.{Garbled, Framed}
 use Rattle.value.specs.Value.{isDay, numberOn}
-use Rattle.value.specs.Readers.{priceRead, priceReason, timeChecked, checkReason}
-use Rattle.value.specs.declared.Price.the-variants.{Value}
+use Rattle.value.specs.Readers.{priceRead, priceReason, priceValues, timeChecked, checkReason}
 use Rattle.field.specs.Pieces.{piecesOf}
 use Rattle.answer.specs.Numbers.{fault, phaseNumber}
 use Rattle.answer.specs.Setup.{idWith}
@@ -62,7 +61,7 @@ pub record Works (e o : ℕ) (text : List ℕ) (became : Outcome) (phase′ e′
 abbrev pub Holds : Case → Type 0
 Holds (message t found) = foundIn (bytesOf t) ≡ found
 Holds (called e o t became phase e′ reply) = Works e o (bytesOf t) became phase e′ (bytesOf reply)
-Holds (price t p) = priceRead (bytesOf t) ≡ Value p
+Holds (price t p) = (priceReason (priceRead (bytesOf t)) ≡ none) × (priceValues (priceRead (bytesOf t)) ≡ p ∷ [])
 Holds (noPrice t reason) = priceReason (priceRead (bytesOf t)) ≡ some reason
 Holds (day t is) = DayIs (bytesOf t) is
 Holds (rules t found) = ruleFault (reportIn (piecesOf (bytesOf t))) ≡ found

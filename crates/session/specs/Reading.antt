@@ -5,9 +5,9 @@ use mathlib.Core.Option.{Option, none, some}
 use mathlib.Core.Bool.{Bool, cond}
 use lib.Dec.{eqb}
 use Rattle.octet.specs.Bytes.{bytesOf}
-use Rattle.value.specs.Readers.{numberRead}
+use Rattle.octet.specs.Maybe as maybe
+use Rattle.value.specs.Readers.{numberRead, numberReason, numberValues}
 use Rattle.value.specs.declared.Number.{Number}
-use Rattle.value.specs.declared.Number.the-variants as number
 use Rattle.field.specs.Pieces.{Pieces, isThat, scanOf}
 use Rattle.field.specs.Look.{Look, lookOf, first}
 use Rattle.field.specs.declared.Scan.{Scan}
@@ -38,9 +38,7 @@ pub record Facts : Type 0 where
 
 -- step 1: "The first `34=` field is 1 to 999,999,998, 1 to 9 digits"
 abbrev pub numberIf : Number → Option ℕ
-numberIf (number.Value n) = some n
-numberIf (number.BadForm at) = none
-numberIf number.OutOfRange = none
+numberIf r = cond (maybe.isNone (numberReason r)) (maybe.first (numberValues r)) none
 
 abbrev pub seqGiven : Option (List ℕ) → Option ℕ
 seqGiven none = none
