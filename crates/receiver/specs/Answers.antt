@@ -19,8 +19,8 @@ pub record Telling : Type 0 where
 abbrev plain : ℕ → List ℕ → Telling
 plain n vs = record { number = n; values = vs; refused = none; became = none }
 
--- The paper has a word for each answer and no number: they are numbered here, from 0. Of a refusal the column No. and its values; of Garbled the skip; of Framed the length, and the
--- number and the values of what became of it; of a restart "how many bytes are whole"
+-- The paper has a word for each answer and no number: they are numbered here, from 0. Of a refusal the column No. and its values; of Garbled the skip; of Framed the length, and
+-- the number and the values of what became of it; of a restart "how many bytes are whole"
 abbrev pub tellsOf : Answer → Telling
 tellsOf Done = plain 0 []
 tellsOf (Refused why) = record { number = 1; values = refusalNumber why ∷ refusalValues why; refused = some why; became = none }
