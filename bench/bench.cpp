@@ -20,26 +20,27 @@ using std::vector;
 // ---- the proved functions: crates/bench. A slice is a pointer and a length, an array a pointer
 
 extern "C" {
-uint64_t bench_message(const uint8_t *ours, size_t n, const uint8_t *theirs, size_t k, uint32_t e, uint32_t fills, uint32_t orders, const uint8_t *time,
-                       size_t time_len, const uint8_t *bytes, size_t bytes_len, uint8_t *book, uint8_t *reply, size_t reply_len, uint8_t *note,
-                       size_t note_len);
+uint64_t bench_message(const uint8_t *ours, size_t n, const uint8_t *theirs, size_t k, uint32_t e, uint32_t fills, uint32_t orders, uint32_t entries,
+                       const uint8_t *time, size_t time_len, const uint8_t *bytes, size_t bytes_len, uint8_t *book, uint8_t *reply, size_t reply_len,
+                       uint8_t *note, size_t note_len);
 size_t bench_restart(uint8_t *book, const uint8_t *notes, size_t notes_len);
 size_t bench_listing(const uint8_t *notes, size_t notes_len, uint8_t *book, uint8_t *out, size_t out_len);
 size_t bench_find(const uint8_t *bytes, size_t bytes_len);
 uint8_t bench_index(const uint8_t *body, size_t body_len, size_t *index);
 uint32_t bench_judge(const uint8_t *ours, size_t n, const uint8_t *theirs, size_t k, uint32_t e, const uint8_t *body, size_t body_len);
-uint8_t bench_admit(const uint8_t *book, size_t last, uint32_t fills, uint32_t orders, const uint8_t *slot, size_t slot_len);
+uint8_t bench_admit(const uint8_t *book, size_t last, uint32_t fills, uint32_t orders, uint32_t entries, const uint8_t *slot, size_t slot_len);
 }
 
 // what a message came to, what the session says of a report, and what the book says of a fill, as the receiver numbers them
-enum Became { REJECTED = 2, HEARD = 7, ECHOED = 8, ALREADY = 11, BOOKED = 12 };
-enum Said { TO_BE_BOOKED = 13 };
+enum Became { REJECTED = 2, HEARD = 7, ECHOED = 8, ALREADY = 11, BOOKED = 12, ENTERED = 13 };
+enum Said { TO_BE_BOOKED = 14 };
 enum Admitted { NEW = 4 };
 
 const int FILLS = 512;
 const int ORDERS = 128;
+const int ENTRIES = 256;
 const size_t SLOT = 94;
-const size_t TAGS = 29;
+const size_t TAGS = 35;
 
 static const uint8_t *bytes_of(const string &s) { return reinterpret_cast<const uint8_t *>(s.data()); }
 
@@ -77,6 +78,12 @@ static string report(int number, int exec, int order, const string &status = "1"
                   identifier("ORD-20261113", order) + "|38=5|39=" + status + "|40=2|54=1|55=XYZ|60=20261113-14:30:00.120|150=1|151=3|" + more);
 }
 
+// a cancel of trade `trade`, with the tags that section 5.2 of the drop marks Y, and some of the others
+static string cancel(int number, int trade) {
+    return framed(head("UCC", number) + "57=DESK|20=1|9020=1|17=" + identifier("SPHR20261113", trade) + "|1003=" + identifier("TRD-20261113", trade) +
+                  "|9021=0|37=" + identifier("ORD-20261113", trade % ORDERS) + "|11=A17|42=20261113-14:30:00.120|60=20261113-15:00:00.120|167=OPT|55=XYZ|54=1|31=1.05|32=1|");
+}
+
 // a report of that size: with fields of other tags, or with one long text, after its own
 static string long_report(size_t size, bool fields) {
     string more;
@@ -99,13 +106,13 @@ static const string GIVEN_TIME = "20261113-14:30:00.125";
 
 struct Receiver {
     vector<uint8_t> book, reply, note;
-    int fills, orders;
+    int fills, orders, entries;
 
-    Receiver() : book(FILLS * SLOT), reply(512), note(102), fills(0), orders(0) {}
+    Receiver() : book((FILLS + ENTRIES) * SLOT), reply(512), note(102), fills(0), orders(0), entries(0) {}
 
     // the call changes the lent memory alone, so that it can be made over and over: a fill is written behind the last one each time
     uint64_t message(const string &m, int e) {
-        return bench_message(OURS, 4, THEIRS, 4, e, fills, orders, bytes_of(GIVEN_TIME), GIVEN_TIME.size(), bytes_of(m), m.size(), book.data(),
+        return bench_message(OURS, 4, THEIRS, 4, e, fills, orders, entries, bytes_of(GIVEN_TIME), GIVEN_TIME.size(), bytes_of(m), m.size(), book.data(),
                              reply.data(), reply.size(), note.data(), note.size());
     }
 
@@ -130,6 +137,16 @@ static Receiver day_of(int fills, string *notes = nullptr) {
         r.fills++;
         if (i < ORDERS - 1 || i == FILLS - 1) r.orders++;
         if (notes) notes->append(r.note.begin(), r.note.end());
+    }
+    return r;
+}
+
+// the same, and after them so many entries
+static Receiver corrected(int fills, int entries) {
+    Receiver r = day_of(fills);
+    for (int i = 0; i < entries; i++) {
+        r.expect("entry " + std::to_string(i + 1), cancel(FILLS, i), FILLS, ENTERED, 0, 101);
+        r.entries++;
     }
     return r;
 }
@@ -278,7 +295,7 @@ struct Bench {
         const string fresh = report(FILLS, FILLS - 1, ORDERS - 1), known = report(FILLS, FILLS - 1, ORDERS - 2);
         const string again = report(FILLS + 1, FILLS - 1, ORDERS - 1), beat = framed(head("0", FILLS + 1));
         const string test = framed(head("1", FILLS + 1) + "112=ARE-YOU-THERE-0513|"), wrong = report(FILLS, FILLS - 1, ORDERS - 1, "2");
-        const string fields = long_report(4096, true), text = long_report(4096, false);
+        const string fields = long_report(4096, true), text = long_report(4096, false), bust = cancel(FILLS, ENTRIES - 1);
         vector<Work> works = {
             {"(a) report booked, 0 fills", booking("a", 0, fresh), parse(fresh, 17), 0.45},
             {"(a) report booked, 128 fills", booking("a", 128, known), parse(known, 17), 0},
@@ -291,6 +308,8 @@ struct Bench {
             {"(f) report of 4,096 bytes, " + std::to_string(std::count(fields.begin(), fields.end(), '\001')) + " fields", booking("f", 0, fields),
              parse(fields, 17), 0.15},
             {"    report of 4,096 bytes, one long text", booking("f", 0, text), parse(text, 17), 0},
+            {"(i) correction entered, 0 fills", call("i", corrected(0, 0), bust, FILLS, ENTERED, 0, 101), parse(bust, 17), 0},
+            {"(i) correction entered, 511 fills and 255 entries", call("i", corrected(511, ENTRIES - 1), bust, FILLS, ENTERED, 0, 101), parse(bust, 17), 0},
         };
         printf("a report has %zu bytes, a Heartbeat %zu, a Test Request %zu; medians of %d rounds, in brackets where nine of ten lie\n\n", fresh.size(),
                beat.size(), test.size(), rounds);
@@ -321,12 +340,12 @@ struct Bench {
     // the stages of (a) that can be called by themselves
     void stages() {
         const string m = report(FILLS, FILLS - 1, ORDERS - 1), body = m.substr(16, m.size() - 23);
-        const vector<uint8_t> slot(full.book.end() - SLOT, full.book.end());
+        const vector<uint8_t> slot(full.book.begin() + (FILLS - 1) * SLOT, full.book.begin() + FILLS * SLOT);
         size_t cells[3 * TAGS];
         auto find = [&]() { return bench_find(bytes_of(m), m.size()); };
         auto index = [&]() { return bench_index(bytes_of(body), body.size(), cells); };
         auto judge = [&]() { return bench_judge(OURS, 4, THEIRS, 4, FILLS, bytes_of(body), body.size()); };
-        auto admit = [&](int fills) { return bench_admit(full.book.data(), fills, fills, ORDERS - 1, slot.data(), slot.size()); };
+        auto admit = [&](int fills) { return bench_admit(full.book.data(), fills, fills, ORDERS - 1, 0, slot.data(), slot.size()); };
         if (find() != m.size() || index() != 0 || body.substr(cells[14], cells[TAGS + 14]) != identifier("SPHR20261113", FILLS - 1) || cells[2 * TAGS + 14] != 1 ||
             judge() != TO_BE_BOOKED || admit(FILLS - 1) != NEW)
             give_up("a stage of the report's call");

@@ -85,17 +85,26 @@ static FIX::Message fill(const string& exec, const string& order, const string& 
     return sent(m);
 }
 
-// a Trade Cancel of the exchange's own type
+// a Trade Cancel, of the exchange's own type: of the trade of X1, with the tags that section 5.2 of the drop marks Y
 static FIX::Message correction()
 {
     FIX::Message m;
     m.getHeader().setField(FIX::BeginString("FIX.4.2"));
     m.getHeader().setField(FIX::MsgType("UCC"));
-    m.setField(FIX::ExecID("X1"));
-    m.setField(FIX::OrderID("7001"));
     m.setField(FIX::ExecTransType('1'));
     m.setField(9020, "1");
-    m.setField(9021, "1");
+    m.setField(FIX::ExecID("X1"));
+    m.setField(1003, "T81");
+    m.setField(9021, "0");
+    m.setField(FIX::OrderID("7001"));
+    m.setField(FIX::ClOrdID("C7001"));
+    m.setField(FIX::UtcTimeStampField(FIX::FIELD::OrigTime, TRADED, 3));
+    m.setField(FIX::TransactTime(TRADED, 3));
+    m.setField(FIX::SecurityType("OPT"));
+    m.setField(FIX::Symbol("ABC"));
+    m.setField(FIX::Side('1'));
+    m.setField(FIX::LastPx(1.05));
+    m.setField(FIX::LastShares(20));
     return sent(m);
 }
 
@@ -264,8 +273,8 @@ static void ends()
 static void night()
 {
     call("newday");
-    for (int n = 3; n <= 8; n++) call("offer");
-    call("ack 7");
+    for (int n = 3; n <= 9; n++) call("offer");
+    call("ack 8");
     call("newday");
     number = 1;
     call("open " + CLOCK);

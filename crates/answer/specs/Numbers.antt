@@ -66,8 +66,9 @@ outcomeNumber (outcome.Moved n) = 10
 outcomeNumber outcome.Aside = 7
 outcomeNumber outcome.Already = 11
 outcomeNumber (outcome.Booked n stepped) = 12
+outcomeNumber (outcome.Entered n) = 13
 
--- of a Reject the reason and the tag that it names; "answers with 36 less the old E"; of a fill its number, and 1 where it is in step
+-- of a Reject the reason and the tag that it names; "answers with 36 less the old E"; of a fill its number, and 1 where it is in step; of an entry its number
 abbrev pub outcomeValues : Outcome → List ℕ
 outcomeValues outcome.Ended = []
 outcomeValues (outcome.Rejected f) = f .reason ∷ f .tag ∷ []
@@ -82,6 +83,7 @@ outcomeValues (outcome.Moved n) = n ∷ []
 outcomeValues outcome.Aside = []
 outcomeValues outcome.Already = []
 outcomeValues (outcome.Booked n stepped) = n ∷ cond stepped 1 0 ∷ []
+outcomeValues (outcome.Entered n) = n ∷ []
 
 -- ---- a Reject's reasons: the numbers of 373
 
@@ -149,8 +151,9 @@ kindNumber kind.Resend = 3
 kindNumber kind.Reset = 4
 kindNumber kind.Logout = 5
 kindNumber kind.Report = 6
-kindNumber kind.Other = 7
-kindNumber kind.Unlisted = 8
+kindNumber kind.Correction = 7
+kindNumber kind.Other = 8
+kindNumber kind.Unlisted = 9
 
 abbrev pub isKind : Kind → Kind → Bool
 isKind a b = eqb (kindNumber a) (kindNumber b)

@@ -73,7 +73,7 @@ impl Phase {
     }
 }
 
-// What a type of message is: A, 0, 1, 2, 4, 5, 8; 3, j and UCC; any other.
+// What a type of message is: A, 0, 1, 2, 4, 5, 8, UCC; 3 and j; any other.
 pub enum Kind {
     Logon,
     Heartbeat,
@@ -82,6 +82,7 @@ pub enum Kind {
     Reset,
     Logout,
     Report,
+    Correction,
     Other,
     Unlisted,
 }
@@ -124,6 +125,7 @@ pub enum Outcome {
     Aside,
     Already,
     Booked(u32, bool),
+    Entered(u32),
 }
 
 impl Outcome {
@@ -145,6 +147,7 @@ impl Outcome {
             Outcome::Aside => 7,
             Outcome::Already => 11,
             Outcome::Booked(_, _) => 12,
+            Outcome::Entered(_) => 13,
         }
     }
 }

@@ -73,3 +73,14 @@ pub const TIME: u32 = 60;
 
 // A report that has it is set aside.
 pub const MULTI_LEG: u32 = 442;
+
+// ---- of a Trade Cancel/Correct
+
+// 20: a new manual trade, a cancel or a correction.
+pub const TRANSACTION: u32 = 20;
+
+pub const CORRECTION_TYPE: u32 = 9020;
+
+pub const TRADE_ID: u32 = 1003;
+
+pub const CORRECTION_NUM: u32 = 9021;

@@ -9,7 +9,7 @@ use Rattle.bench.proofs.bench_judge as bench-judge
 use Rattle.bench.proofs.bench_admit as bench-admit
 
 pub message-one : Once bench-message.ended (λ M 𝓤. bench-message.clauses 𝓤)
-    (λ κs r e. r & e .1 .1 .1 .1 .1 .1 .1 .1 .1 .0 .now & e .1 .1 .1 .1 .1 .1 .1 .1 .1 .1 .0 .now & e .1 .1 .1 .1 .1 .1 .1 .1 .1 .1 .1 .0 .now)
+    (λ κs r e. r & e .1 .1 .1 .1 .1 .1 .1 .1 .1 .1 .0 .now & e .1 .1 .1 .1 .1 .1 .1 .1 .1 .1 .1 .0 .now & e .1 .1 .1 .1 .1 .1 .1 .1 .1 .1 .1 .1 .0 .now)
 message-one M 𝓤 H A mem run κs a g = (_, λ r e. by 𝓤 (λ p. both (p .told) (both (p .booked) (both (p .replied) (p .noted)))))
 
 pub restart-one : Once bench-restart.ended (λ M 𝓤. bench-restart.clauses 𝓤) (λ κs r e. r & e .0 .now)

@@ -6,7 +6,7 @@ use mathlib.Core.Option.{Option, none, some}
 use lib.ListN.{length}
 use Rattle.answer.specs.declared.Setup.{Setup}
 use Rattle.answer.specs.declared.Phase.the-variants.{In}
-use Rattle.answer.specs.Numbers.{outcomeNumber}
+use Rattle.answer.specs.Numbers.{outcomeNumber, counted}
 use Rattle.answer.specs.declared.Outcome.{Outcome}
 use Rattle.field.specs.Pieces.{piecesOf, scanOf}
 use Rattle.field.specs.Index.{indexOf}
@@ -15,7 +15,8 @@ use Rattle.field.specs.declared.Scan.the-variants.{Sound, Malformed, Empty}
 use Rattle.frame.specs.declared.Found.{Found}
 use Rattle.frame.specs.declared.Found.the-variants.{More, Garbled, Framed}
 use Rattle.session.specs.declared.Verdict.{Verdict}
-use Rattle.session.specs.declared.Verdict.the-variants.{Settled, Report}
+use Rattle.session.specs.declared.Verdict.the-variants.{Settled, Report, Correction}
+use Rattle.book.specs.declared.Load.{Load}
 use Rattle.book.specs.declared.Admitted.{Admitted}
 use Rattle.book.specs.declared.Admitted.the-variants as admitted
 use Rattle.receiver.specs.Receiver.{does, Message}
@@ -30,11 +31,14 @@ use Rattle.receiver.specs.declared.Answer.{Answer}
 abbrev pub agreed : List ℕ → ℕ → List ℕ → ℕ → Setup
 agreed ours n theirs k = record { ours = record { bytes = ours; len = n }; theirs = record { bytes = theirs; len = k } }
 
--- phase 2, E as given, nothing written yet; so many fills of so many orders, none acknowledged and none offered
-abbrev pub online : ℕ → ℕ → ℕ → Stored
-online e fills orders = record {
+abbrev pub loadOf : ℕ → ℕ → ℕ → Load
+loadOf fills orders entries = record { fills = fills; orders = orders; entries = entries }
+
+-- phase 2, E as given, nothing written yet; so many fills of so many orders, and entries, none acknowledged and none offered
+abbrev pub online : ℕ → Load → Stored
+online e load = record {
   session = record { phase = In; e = e; o = 1; asked = 0 };
-  marks = record { last = fills; fills = fills; orders = orders; acked = 0; offered = 0 };
+  marks = record { last = counted (load .fills) (load .entries); load = load; acked = 0; offered = 0 };
 }
 
 -- the number of what became of a framed message; 0 for every other answer
@@ -78,12 +82,13 @@ pub record Indexed (body : List ℕ) (r : ℕ) (index : List ℕ) : Type 0 where
   pub fault : r ≡ scanNumber (scanOf (piecesOf body))
   pub listed : index ≡ indexOf body
 
--- what the session says of a message: the number of what became of it, or 13 where it is a report about which the book is to be asked
+-- what the session says of a message: the number of what became of it, or 14 and 15 where it is a report or a correction about which the book is to be asked
 abbrev pub verdictNumber : Verdict → ℕ
 verdictNumber (Settled j) = outcomeNumber (j .outcome)
-verdictNumber (Report n) = 13
+verdictNumber (Report n) = 14
+verdictNumber (Correction n) = 15
 
--- what becomes of a fill among the day's: the place of the answer among all of them, from 1
+-- what becomes of a fill or an entry among the day's: the place of the answer among all of them, from 1
 abbrev pub admittedNumber : Admitted → ℕ
 admittedNumber (admitted.Clash f) = 1
 admittedNumber admitted.Already = 2

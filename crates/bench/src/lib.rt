@@ -5,6 +5,8 @@ use answer::Phase;
 use answer::Setup;
 use book::Admitted;
 use book::BOOK;
+use book::Load;
+use book::NO_LOAD;
 use field::Index;
 use field::NO_INDEX;
 use field::Scan;
@@ -21,12 +23,12 @@ ghost use mathlib.Core.Path.{_≡_};
 ghost use Rattle.field.specs.Pieces.{piecesOf};
 ghost use Rattle.session.specs.Judging.{judge};
 ghost use Rattle.book.specs.Memory.{slotsIn};
-ghost use Rattle.book.specs.Admitting.{admitOf};
+ghost use Rattle.book.specs.Admitting.{noLoad, admitOf};
 ghost use Rattle.frame.specs.Finding.{foundIn};
 ghost use Rattle.restart.specs.Restart.{restart, told, wholeIn, bookAfter};
 ghost use Rattle.listing.specs.Listing.{Lists};
 ghost use Rattle.receiver.specs.Steps.{Heard};
-ghost use Rattle.bench.specs.Timed.{agreed, online, becameNumber, wordOf, TimedMessage, lengthOf, Indexed, verdictNumber, admittedNumber};
+ghost use Rattle.bench.specs.Timed.{agreed, loadOf, online, becameNumber, wordOf, TimedMessage, lengthOf, Indexed, verdictNumber, admittedNumber};
 
 // The number of what became of a framed message, 0 for every other answer.
 fn became_number(answer: Answer) -> u32
@@ -74,8 +76,8 @@ fn agreed(ours: [u8; 16], n: usize, theirs: [u8; 16], k: usize) -> Setup
     }
 }
 
-fn online(e: u32, fills: u32, orders: u32) -> State
-    ensures { λ r. ⌜ r ≡ online e fills orders ⌝ }
+fn online(e: u32, load: Load) -> State
+    ensures { λ r. ⌜ r ≡ online e load ⌝ }
 {
     State {
         session: Session {
@@ -85,9 +87,8 @@ fn online(e: u32, fills: u32, orders: u32) -> State
             asked: 0,
         },
         marks: Marks {
-            last: fills,
-            fills,
-            orders,
+            last: answer::count_on(load.fills, load.entries),
+            load,
             acked: 0,
             offered: 0,
         },
@@ -124,6 +125,7 @@ pub extern "C" fn bench_message(
     e: u32,
     fills: u32,
     orders: u32,
+    entries: u32,
     time: &[u8],
     bytes: &[u8],
     book: &mut [u8; BOOK],
@@ -131,13 +133,20 @@ pub extern "C" fn bench_message(
     note: &mut [u8],
 ) -> u64
     ensures { λ r. ⌜
-        TimedMessage (agreed (now (ours .entry)) n (now (theirs .entry)) k) (online e fills orders) (now (time .entry)) (now (bytes .entry)) r
+        TimedMessage (agreed (now (ours .entry)) n (now (theirs .entry)) k) (online e (loadOf fills orders entries)) (now (time .entry)) (now (bytes .entry)) r
         (now (book .entry)) (now (book .exit)) (now (reply .entry)) (now (reply .exit)) (now (note .entry)) (now (note .exit))
         ⌝ }
 {
     let told = lend(
         agreed(*ours, n, *theirs, k),
-        online(e, fills, orders),
+        online(
+            e,
+            Load {
+                fills,
+                orders,
+                entries,
+            },
+        ),
         Tally::new(),
         time,
         bytes,
@@ -201,10 +210,10 @@ pub extern "C" fn bench_judge(
     e: u32,
     body: &[u8],
 ) -> u32
-    ensures { λ r. ⌜ r ≡ verdictNumber (judge (agreed (now (ours .entry)) n (now (theirs .entry)) k) (online e 0 0 .session) (piecesOf (now (body .entry)))) ⌝ }
+    ensures { λ r. ⌜ r ≡ verdictNumber (judge (agreed (now (ours .entry)) n (now (theirs .entry)) k) (online e noLoad .session) (piecesOf (now (body .entry)))) ⌝ }
 {
     let setup = agreed(*ours, n, *theirs, k);
-    let st = online(e, 0, 0);
+    let st = online(e, NO_LOAD);
     let session = st.session;
     let mut index = NO_INDEX;
     let scan = field::index_into(body, &mut index);
@@ -214,22 +223,29 @@ pub extern "C" fn bench_judge(
             let outcome = j.outcome;
             outcome.number()
         }
-        Verdict::Report(_) => 13,
+        Verdict::Report(_) => 14,
+        Verdict::Correction(_) => 15,
     }
 }
 
-// What becomes of a fill among the day's.
+// What becomes of a fill or an entry among the day's.
 #[no_mangle]
 pub extern "C" fn bench_admit(
     book: &[u8; BOOK],
     last: usize,
     fills: u32,
     orders: u32,
+    entries: u32,
     slot: &[u8],
 ) -> u8
-    ensures { λ r. ⌜ r ≡ admittedNumber (admitOf (slotsIn last (now (book .entry))) fills orders (now (slot .entry))) ⌝ }
+    ensures { λ r. ⌜ r ≡ admittedNumber (admitOf (slotsIn last (now (book .entry))) (loadOf fills orders entries) (now (slot .entry))) ⌝ }
 {
-    match book::admit(book, last, fills, orders, slot) {
+    let load = Load {
+        fills,
+        orders,
+        entries,
+    };
+    match book::admit(book, last, load, slot) {
         Admitted::Clash(_) => 1,
         Admitted::Already => 2,
         Admitted::Full => 3,

@@ -1,5 +1,6 @@
 -- Searches and sums over the slots of a lent memory, and the walk that makes them all at once.
 --     find-inside, sum-inside     past the end of the memory there is nothing to find and nothing to add
+--     search-found, search-on, search-none     a search from the first slot to the last
 --     sees-none, sees-turn, sees-done, sees-inside     a walk from the last slot to the first: before it, at a slot, after it, and over all that are
 --     counted
 --     passes-none, passes-turn     slots that it passes over
@@ -82,7 +83,7 @@ module _ (p : Slot → Bool) (passed : p [] ≡ false) where
   sum-past (suc k) (suc n) m l h =
       ap (λ (r : ℕ). cond (p (take slotWidth m)) (sharesOf (take slotWidth m)) 0 + r) (sum-past k n (drop slotWidth m) (shorter k m l) (omega arith))
 
-  -- so a book's memory is looked at no further than its 512 slots
+  -- so a book's memory is looked at no further than its slots
   pub find-inside : (n : ℕ) (m : List ℕ) → length m ≡ bookWidth → find p (slotsIn (min n mostSlots) m) ≡ find p (slotsIn n m)
   find-inside n m l =
       ⊎-elim
@@ -109,6 +110,26 @@ module _ (p : Slot → Bool) (passed : p [] ≡ false) where
       of-cond (λ (k : ℕ). someSlot (part (k * slotWidth) slotWidth m) ≡ find p (s ∷ ss)) (p s)
       (λ h. found-some s h ∙ sym (find-here p s ss h))
       (λ h. e ∙ sym (find-later p s ss h))
+
+  -- a search from the first slot to the last, at slot i: it is found, it is not this one, and there is none
+  module _ (m : List ℕ) (n i : ℕ) (so-far : find p (slotsIn (n - i) (drop (i * slotWidth) m)) ≡ find p (slotsIn n m)) where
+    pub search-found : (s : Slot) → i < n → s ≡ part (i * slotWidth) slotWidth m → p s ≡ true → someSlot (part (i * slotWidth) slotWidth m) ≡ find p (slotsIn n m)
+    search-found s l es h =
+        let t = part (i * slotWidth) slotWidth m in
+        let g : p t ≡ true = ap p (sym es) ∙ h in
+        found-some t g ∙ sym (ap (find p) (slots-next n i m l) ∙ find-here p t (slotsIn (n - (i + 1)) (drop ((i + 1) * slotWidth) m)) g) ∙ so-far
+
+    pub search-on : (s : Slot) → i < n → s ≡ part (i * slotWidth) slotWidth m → p s ≡ false
+        → find p (slotsIn (n - (i + 1)) (drop ((i + 1) * slotWidth) m)) ≡ find p (slotsIn n m)
+    search-on s l es h =
+        let t = part (i * slotWidth) slotWidth m in
+        sym (ap (find p) (slots-next n i m l) ∙ find-later p t (slotsIn (n - (i + 1)) (drop ((i + 1) * slotWidth) m)) (ap p (sym es) ∙ h)) ∙ so-far
+
+    pub search-none : length m ≡ bookWidth → n ≤ i → someSlot (part (mostSlots * slotWidth) slotWidth m) ≡ find p (slotsIn n m)
+    search-none l h =
+        ap someSlot (part-past (mostSlots * slotWidth) slotWidth m (omega arith))
+        ∙ sym (ap (find p) (slots-last n i (drop (i * slotWidth) m) h))
+        ∙ so-far
 
 -- ---- the walk
 abbrev seenOf : ℕ → ℕ → ℕ → Seen

@@ -1,6 +1,10 @@
 pub mod Slots
 pub mod Words
 pub mod Finds
+pub mod ByKind
 pub mod Placing
+pub mod Keyed
 pub mod Unique
 pub mod Orders
+pub mod Counts
+pub mod Apart

@@ -3,6 +3,7 @@
 --     orders-more     a fill more: the same list, or its OrderID at the end
 --     orders-counted     so the count that is kept is its length, with one fill more
 --     fills-counted     and the count of fills that of the slots that are fills
+--     orders-still, fills-still     a slot more that is no fill changes neither
 --     fills-most     they are at most as many as there are slots
 use mathlib.Core.Path.{_≡_, refl, sym, ap, ap₂, _∙_}
 use mathlib.Core.List.{List, [], _∷_, _++_}
@@ -13,7 +14,7 @@ use native.Mathlib.Omega.{arith}
 use lib.ListN.{length, length-append}
 use Rattle.octet.specs.Bytes.{same}
 use Rattle.octet.specs.Maybe.{find, isNone}
-use Rattle.octet.proofs.Cases.{of-cond}
+use Rattle.octet.proofs.Cases.{of-cond, cond-false}
 use Rattle.octet.proofs.Lists.{same-true}
 use Rattle.fill.specs.Slot.{Slot, isFill, orderOf}
 use Rattle.book.specs.Place.{sameOrder, knownOrder, fillsWith, ordersWith}
@@ -84,6 +85,11 @@ orders-more ss f e =
     turned true = refl
     turned false = refl
 
+pub orders-still : (ss : List Slot) (s : Slot) → isFill s ≡ false → ordersOf (ss ++ (s ∷ [])) ≡ ordersOf ss
+unfolding withOrder
+orders-still ss s h =
+    after-end [] ss s ∙ ap (λ (b : Bool). cond (b && not (isAmong (orderOf s) (ordersOf ss))) (ordersOf ss ++ (orderOf s ∷ [])) (ordersOf ss)) h
+
 pub orders-counted : (ss : List Slot) (f : Slot) → isFill f ≡ true → ordersWith ss (length (ordersOf ss)) f ≡ length (ordersOf (ss ++ (f ∷ [])))
 unfolding ordersWith
 orders-counted ss f e = by (knownOrder ss f) ∙ sym (ap length (orders-more ss f e))
@@ -100,6 +106,9 @@ fills-end n (x ∷ ss) s = fills-end (fillsWith n x) ss s
 
 pub fills-counted : (ss : List Slot) (s : Slot) → fillsOf (ss ++ (s ∷ [])) ≡ fillsWith (fillsOf ss) s
 fills-counted ss s = fills-end 0 ss s
+
+pub fills-still : (ss : List Slot) (s : Slot) → isFill s ≡ false → fillsOf (ss ++ (s ∷ [])) ≡ fillsOf ss
+fills-still ss s h = fills-counted ss s ∙ cond-false (isFill s) (fillsOf ss + 1) (fillsOf ss) h
 
 fills-below : (n : ℕ) (ss : List Slot) → fillsAfter n ss ≤ n + length ss
 unfolding fillsAfter

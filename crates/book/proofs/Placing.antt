@@ -1,11 +1,13 @@
--- What the definitions of placement, room and step come to, test by test; twin and known are what a walk found for the ExecID and the order.
+-- What the definitions of placement, room and step come to for a fill, test by test; twin and known are what a walk found for the ExecID and the order.
+-- Keyed has the same of an entry, and what becomes of any slot stands at the end.
 --     contents-by     same contents, from what each comparison said
 --     order-new, order-symbol, order-side, order-same     placement by the order
 --     exec-new, exec-already, exec-clash, placed-by     placement
---     room-last, room-full, room-few, room-known, room-by     room; has-room: what it says
+--     room-last, room-full, room-few, room-known, room-by     room; has-room: what it says, of any slot
 --     fills-more, fills-same, orders-same, orders-one, orders-by     the counts
---     step-by, booking-by, booking-fills, booking-orders     in step, and what a booking changes and answers
---     admit-is     what becomes of a fill is decided by its placement
+--     step-by, booking-by     in step, and what a booking changes and answers
+--     booking-load     with room the counts are as they stand, of any slot
+--     admit-is     what becomes of a slot is decided by its placement
 --     admit-clash, admit-already, admit-full, admit-new     and what it is in each case
 --     admitted-clash, admitted-already, admitted-full, admitted-new     what an answer says of placement and room
 use mathlib.Core.Path.{_≡_, refl, sym, ap, ap₂, _∙_, subst}
@@ -21,14 +23,17 @@ use lib.Dec.{ltb, eqb}
 use borrow.Author.Tests.{lt-ltb, le-ltb, ltb-true, ne-eqb}
 use Rattle.octet.specs.Bytes.{same}
 use Rattle.octet.specs.Maybe.{find, isNone}
-use Rattle.octet.proofs.Cases.{cond-true, cond-false, of-cond, or-cases, and-left, and-right}
+use Rattle.octet.proofs.Cases.{bool-case, cond-true, cond-false, of-cond, or-cases, and-both}
 use Rattle.answer.specs.Numbers.{fault, largest, counted}
 use Rattle.answer.specs.declared.Fault.{Fault}
-use Rattle.fill.specs.Slot.{Slot, isFill, orderOf, sharesOf, priceOf, cumOf}
-use Rattle.book.specs.Place.{sameExec, sameOrder, sameSymbol, sameSide, sameContents, byOrder, byExec, place, knownOrder, fillsWith, ordersWith, hasRoom, sumWhere, carried, inStep, mostFills, mostOrders}
+use Rattle.fill.specs.Slot.{Slot, isFill, isEntry, orderOf, sharesOf, priceOf, cumOf}
+use Rattle.book.specs.Place.{sameExec, sameOrder, sameSymbol, sameSide, sameContents, byOrder, byExec, placeFill}
+use Rattle.book.specs.Place.{knownOrder, fillsWith, ordersWith, fillRoom, sumWhere, carried, inStep, mostFills, mostOrders}
+use Rattle.book.specs.Entries.{entryRoom, mostEntries}
 use Rattle.book.specs.Memory.{mostSlots, slotsIn}
-use Rattle.book.specs.Admitting.{bookingOf, admitBy, admitOf}
+use Rattle.book.specs.Admitting.{place, hasRoom, loadWith, stopped, bookingOf, admitBy, admitOf}
 use Rattle.book.specs.Seeing.{someSlot, roomFor, ordersFor}
+use Rattle.book.specs.declared.Load.{Load}
 use Rattle.book.specs.declared.Booking.{Booking}
 use Rattle.book.specs.declared.Placed.{Placed}
 use Rattle.book.specs.declared.Placed.the-variants.{Clash, Already, New}
@@ -36,6 +41,7 @@ use Rattle.book.specs.declared.Admitted.{Admitted}
 use Rattle.book.specs.declared.Admitted.the-variants as admitted
 use Rattle.book.proofs.Slots.{slots-length}
 use Rattle.book.proofs.Finds.{known-none, known-some}
+use Rattle.book.proofs.ByKind.{loads, place-fill, room-fill, room-entry, load-fill, load-entry}
 
 pub contents-by : (f k : Slot) {a b d e g : Bool} → same (orderOf f) (orderOf k) ≡ a → sameSymbol f k ≡ b → sameSide f k ≡ d → eqb (sharesOf f) (sharesOf k) ≡ e → eqb (priceOf f) (priceOf k) ≡ g
     → a && b && d && e && g ≡ sameContents f k
@@ -84,48 +90,54 @@ is-known : (k : Slot) → not (eqb (length k) 0) ≡ not (isNone (someSlot k))
 is-known [] = refl
 is-known (b ∷ k) = rw (ne-eqb (suc (length k)) 0 (λ e. omega arith))
 
-module _ (last fills orders : ℕ) (k : Slot) where
-  pub room-last : mostSlots ≤ last → false ≡ roomFor last fills orders k
+module _ (last : ℕ) (load : Load) (k : Slot) where
+  pub room-last : mostSlots ≤ last → false ≡ roomFor last load k
   room-last h = sym (rw (le-ltb last mostSlots h))
 
-  pub room-full : last < mostSlots → mostFills ≤ fills → false ≡ roomFor last fills orders k
-  room-full l h = sym (rw (lt-ltb last mostSlots l, le-ltb fills mostFills h))
+  pub room-full : last < mostSlots → mostFills ≤ load .fills → false ≡ roomFor last load k
+  room-full l h = sym (rw (lt-ltb last mostSlots l, le-ltb (load .fills) mostFills h))
 
-  pub room-few : last < mostSlots → fills < mostFills → orders < mostOrders → true ≡ roomFor last fills orders k
-  room-few l h g = sym (rw (lt-ltb last mostSlots l, lt-ltb fills mostFills h, lt-ltb orders mostOrders g) (or-true (not (isNone (someSlot k)))))
+  pub room-few : last < mostSlots → load .fills < mostFills → load .orders < mostOrders → true ≡ roomFor last load k
+  room-few l h g = sym (rw (lt-ltb last mostSlots l, lt-ltb (load .fills) mostFills h, lt-ltb (load .orders) mostOrders g) (or-true (not (isNone (someSlot k)))))
     where
       or-true : (b : Bool) → b || true ≡ true
       or-true true = refl
       or-true false = refl
 
-  pub room-known : last < mostSlots → fills < mostFills → mostOrders ≤ orders → not (eqb (length k) 0) ≡ roomFor last fills orders k
+  pub room-known : last < mostSlots → load .fills < mostFills → mostOrders ≤ load .orders → not (eqb (length k) 0) ≡ roomFor last load k
   room-known l h g =
-      is-known k ∙ sym (rw (lt-ltb last mostSlots l, lt-ltb fills mostFills h, le-ltb orders mostOrders g) (or-false (not (isNone (someSlot k)))))
+      is-known k ∙ sym (rw (lt-ltb last mostSlots l, lt-ltb (load .fills) mostFills h, le-ltb (load .orders) mostOrders g) (or-false (not (isNone (someSlot k)))))
     where
       or-false : (b : Bool) → b || false ≡ b
       or-false true = refl
       or-false false = refl
 
-  pub room-by : (m : List ℕ) (f : Slot) → someSlot k ≡ find (sameOrder f) (slotsIn last m) → roomFor last fills orders k ≡ hasRoom (slotsIn last m) fills orders f
-  unfolding hasRoom knownOrder
-  room-by m f e =
-      ap₂ (λ (n : ℕ) (o : Option Slot). ltb n mostSlots && (ltb fills mostFills && (not (isNone o) || ltb orders mostOrders))) (sym (slots-length last m)) e
+  pub room-by : (m : List ℕ) (f : Slot) → isEntry f ≡ false → someSlot k ≡ find (sameOrder f) (slotsIn last m) → roomFor last load k ≡ hasRoom (slotsIn last m) load f
+  unfolding fillRoom knownOrder
+  room-by m f h e =
+      ap₂ (λ (n : ℕ) (o : Option Slot). ltb n mostSlots && (ltb (load .fills) mostFills && (not (isNone o) || ltb (load .orders) mostOrders))) (sym (slots-length last m)) e
+      ∙ sym (room-fill f h (slotsIn last m) load)
 
--- what room says
-pub record Room (ss : List Slot) (fills orders : ℕ) (f : Slot) : Type 0 where
+-- what room says: of a slot after the last in any case
+pub record Room (ss : List Slot) (load : Load) (s : Slot) : Type 0 where
   pub slot-left : length ss < mostSlots
-  pub few-fills : fills < mostFills
-  pub order-left : (knownOrder ss f || ltb orders mostOrders) ≡ true
+  pub few-fills : isEntry s ≡ false → load .fills < mostFills
+  pub order-left : isEntry s ≡ false → (knownOrder ss s || ltb (load .orders) mostOrders) ≡ true
+  pub few-entries : isEntry s ≡ true → load .entries < mostEntries
 
-pub has-room : (ss : List Slot) (fills orders : ℕ) (f : Slot) → hasRoom ss fills orders f ≡ true → Room ss fills orders f
-unfolding hasRoom
-has-room ss fills orders f e =
-    let a = and-left (ltb (length ss) mostSlots) (ltb fills mostFills && (knownOrder ss f || ltb orders mostOrders)) e in
-    let b = and-right (ltb (length ss) mostSlots) (ltb fills mostFills && (knownOrder ss f || ltb orders mostOrders)) e in
+pub has-room : (ss : List Slot) (load : Load) (s : Slot) → hasRoom ss load s ≡ true → Room ss load s
+unfolding hasRoom fillRoom
+has-room ss load s e =
+    let fills = ltb (load .fills) mostFills in
+    let order = knownOrder ss s || ltb (load .orders) mostOrders in
+    let both : isEntry s ≡ false → (fills ≡ true) × (order ≡ true)
+    = λ h. and-both fills order (and-both (ltb (length ss) mostSlots) (fills && order) (sym (room-fill s h ss load) ∙ e) .1) in
     record {
-      slot-left = ltb-true (length ss) mostSlots a;
-      few-fills = ltb-true fills mostFills (and-left (ltb fills mostFills) (knownOrder ss f || ltb orders mostOrders) b);
-      order-left = and-right (ltb fills mostFills) (knownOrder ss f || ltb orders mostOrders) b;
+      slot-left = ltb-true (length ss) mostSlots (and-both (ltb (length ss) mostSlots) (cond (isEntry s) (entryRoom (load .entries)) (fills && order)) e .0);
+      few-fills = λ h. ltb-true (load .fills) mostFills (both h .0);
+      order-left = λ h. both h .1;
+      few-entries = λ h. ltb-true (load .entries) mostEntries
+          (and-both (ltb (length ss) mostSlots) (entryRoom (load .entries)) (sym (room-entry s h ss load) ∙ e) .1);
     }
 
 -- ---- the counts
@@ -143,10 +155,10 @@ orders-same orders k h l =
 pub orders-one : (orders n : ℕ) (k : Slot) → length k ≡ 0 → n ≡ counted orders 1 → n ≡ ordersFor orders k
 orders-one orders n k h e = e ∙ ap (λ (o : Option Slot). min (cond (not (isNone o)) orders (orders + 1)) largest) (sym (known-none k h))
 
-module _ (ss : List Slot) (fills orders : ℕ) (f k : Slot) (found : someSlot k ≡ find (sameOrder f) ss) where
-  pub orders-by : ordersFor orders k ≡ min (ordersWith ss orders f) largest
+module _ (ss : List Slot) (load : Load) (f k : Slot) (found : someSlot k ≡ find (sameOrder f) ss) where
+  pub orders-by : ordersFor (load .orders) k ≡ min (ordersWith ss (load .orders) f) largest
   unfolding ordersWith knownOrder
-  orders-by = ap (λ (o : Option Slot). min (cond (not (isNone o)) orders (orders + 1)) largest) found
+  orders-by = ap (λ (o : Option Slot). min (cond (not (isNone o)) (load .orders) (load .orders + 1)) largest) found
 
   -- ---- in step
   pub step-by : (cum carry sum shares : ℕ) → cum ≡ cumOf f → carry ≡ carried f (someSlot k) → sum ≡ sumWhere (sameOrder f) ss → shares ≡ sharesOf f
@@ -156,86 +168,100 @@ module _ (ss : List Slot) (fills orders : ℕ) (f k : Slot) (found : someSlot k 
       let e = ap (carried f) found in
       ap₂ eqb ec (ap₂ _+_ (ea ∙ e) (ap₂ _+_ es eh))
 
-  pub booking-by : (m n : ℕ) (step : Bool) → m ≡ min (fillsWith fills f) largest → n ≡ ordersFor orders k → step ≡ inStep ss f
-      → _≡_ {A = Booking} (record { fills = m; orders = n; stepped = step }) (bookingOf ss fills orders f)
+  pub booking-by : (m n : ℕ) (step : Bool) → isEntry f ≡ false → load .entries ≤ largest
+      → m ≡ min (fillsWith (load .fills) f) largest → n ≡ ordersFor (load .orders) k → step ≡ inStep ss f
+      → _≡_ {A = Booking} (record { load = record { fills = m; orders = n; entries = load .entries }; stepped = step }) (bookingOf ss load f)
   unfolding bookingOf
-  booking-by m n step em en es =
+  booking-by m n step h le em en es =
       let eo = en ∙ orders-by in
+      let ee : load .entries ≡ min (load .entries) largest = omega arith in
+      let el = ap stopped (load-fill f h ss load) in
+      let eb = ap (λ (b : Bool). not b && inStep ss f) h in
       cc
 
 -- with room the counts are as they stand
-pub booking-fills : (ss : List Slot) (fills orders : ℕ) (f : Slot) → hasRoom ss fills orders f ≡ true → bookingOf ss fills orders f .fills ≡ fillsWith fills f
-unfolding bookingOf
-booking-fills ss fills orders f h =
-    let r = has-room ss fills orders f h .few-fills in
-    of-cond (λ (n : ℕ). min n largest ≡ n) (isFill f) (λ e. omega arith) (λ e. omega arith)
-
-pub booking-orders : (ss : List Slot) (fills orders : ℕ) (f : Slot) → orders ≤ largest → hasRoom ss fills orders f ≡ true → bookingOf ss fills orders f .orders ≡ ordersWith ss orders f
+pub booking-load : (ss : List Slot) (load : Load) (s : Slot) → load .fills ≤ largest → load .orders ≤ largest → load .entries ≤ largest → hasRoom ss load s ≡ true
+    → bookingOf ss load s .load ≡ loadWith ss load s
 unfolding bookingOf ordersWith
-booking-orders ss fills orders f h r =
-    min-eq-left
+booking-load ss load s lf lo le r =
+    let room = has-room ss load s r in
+    ⊎-elim
+    (λ h. (let n = room .few-entries h in
+    let ef : min (load .fills) largest ≡ load .fills = omega arith in
+    let eo : min (load .orders) largest ≡ load .orders = omega arith in
+    let ee : min (load .entries + 1) largest ≡ load .entries + 1 = omega arith in
+    let el = load-entry s h ss load in
+    ap stopped el ∙ loads ef eo ee ∙ sym el))
+    (λ h. (let n = room .few-fills h in
+    let ef : min (fillsWith (load .fills) s) largest ≡ fillsWith (load .fills) s =
+    of-cond (λ (n : ℕ). min n largest ≡ n) (isFill s) (λ e. omega arith) (λ e. omega arith) in
+    let eo = min-eq-left
     (⊎-elim
-    (λ k. subst (λ (x : ℕ). x ≤ largest) (sym (cond-true (knownOrder ss f) orders (orders + 1) k)) h)
-    (λ k. (let b = ltb-true orders mostOrders k in
-    of-cond (λ (x : ℕ). x ≤ largest) (knownOrder ss f) (λ e. h) (λ e. omega arith)))
-    (or-cases (knownOrder ss f) (ltb orders mostOrders) (has-room ss fills orders f r .order-left)))
+    (λ k. subst (λ (x : ℕ). x ≤ largest) (sym (cond-true (knownOrder ss s) (load .orders) (load .orders + 1) k)) lo)
+    (λ k. (let b = ltb-true (load .orders) mostOrders k in
+    of-cond (λ (x : ℕ). x ≤ largest) (knownOrder ss s) (λ e. lo) (λ e. omega arith)))
+    (or-cases (knownOrder ss s) (ltb (load .orders) mostOrders) (room .order-left h))) in
+    let ee : min (load .entries) largest ≡ load .entries = omega arith in
+    let el = load-fill s h ss load in
+    ap stopped el ∙ loads ef eo ee ∙ sym el))
+    (bool-case (isEntry s))
 
 -- ---- placement, from what a walk found
-pub placed-by : (ss : List Slot) (f twin known : Slot) (r : Placed) → someSlot twin ≡ find (sameExec f) ss → someSlot known ≡ find (sameOrder f) ss
+pub placed-by : (ss : List Slot) (f twin known : Slot) (r : Placed) → isEntry f ≡ false → someSlot twin ≡ find (sameExec f) ss → someSlot known ≡ find (sameOrder f) ss
     → ((tt : List Slot) → someSlot known ≡ find (sameOrder f) tt → r ≡ byExec tt f (someSlot twin)) → r ≡ place ss f
-unfolding place
-placed-by ss f twin known r et ek er = er ss ek ∙ ap (byExec ss f) et
+unfolding placeFill
+placed-by ss f twin known r h et ek er = er ss ek ∙ ap (byExec ss f) et ∙ sym (place-fill f h ss)
 
--- ---- what becomes of a fill
-module _ (ss : List Slot) (fills orders : ℕ) (f : Slot) where
-  pub admit-is : admitOf ss fills orders f ≡ admitBy ss fills orders f (place ss f)
+-- ---- what becomes of a slot
+module _ (ss : List Slot) (load : Load) (s : Slot) where
+  pub admit-is : admitOf ss load s ≡ admitBy ss load s (place ss s)
   unfolding admitOf
   admit-is = refl
 
   -- from where it is placed and whether there is room
-  pub admit-clash : {g : Fault} → place ss f ≡ Clash g → admitOf ss fills orders f ≡ admitted.Clash g
-  admit-clash e = admit-is ∙ ap (admitBy ss fills orders f) e
+  pub admit-clash : {g : Fault} → place ss s ≡ Clash g → admitOf ss load s ≡ admitted.Clash g
+  admit-clash e = admit-is ∙ ap (admitBy ss load s) e
 
-  pub admit-already : place ss f ≡ Already → admitOf ss fills orders f ≡ admitted.Already
-  admit-already e = admit-is ∙ ap (admitBy ss fills orders f) e
+  pub admit-already : place ss s ≡ Already → admitOf ss load s ≡ admitted.Already
+  admit-already e = admit-is ∙ ap (admitBy ss load s) e
 
-  pub admit-full : place ss f ≡ New → hasRoom ss fills orders f ≡ false → admitOf ss fills orders f ≡ admitted.Full
-  admit-full e h = admit-is ∙ ap (admitBy ss fills orders f) e ∙ cond-false (hasRoom ss fills orders f) (admitted.New (bookingOf ss fills orders f)) admitted.Full h
+  pub admit-full : place ss s ≡ New → hasRoom ss load s ≡ false → admitOf ss load s ≡ admitted.Full
+  admit-full e h = admit-is ∙ ap (admitBy ss load s) e ∙ cond-false (hasRoom ss load s) (admitted.New (bookingOf ss load s)) admitted.Full h
 
-  pub admit-new : place ss f ≡ New → hasRoom ss fills orders f ≡ true → admitOf ss fills orders f ≡ admitted.New (bookingOf ss fills orders f)
-  admit-new e h = admit-is ∙ ap (admitBy ss fills orders f) e ∙ cond-true (hasRoom ss fills orders f) (admitted.New (bookingOf ss fills orders f)) admitted.Full h
+  pub admit-new : place ss s ≡ New → hasRoom ss load s ≡ true → admitOf ss load s ≡ admitted.New (bookingOf ss load s)
+  admit-new e h = admit-is ∙ ap (admitBy ss load s) e ∙ cond-true (hasRoom ss load s) (admitted.New (bookingOf ss load s)) admitted.Full h
 
   -- and back
-  by-clash : (p : Placed) {g : Fault} → admitBy ss fills orders f p ≡ admitted.Clash g → p ≡ Clash g
+  by-clash : (p : Placed) {g : Fault} → admitBy ss load s p ≡ admitted.Clash g → p ≡ Clash g
   by-clash (Clash h) e = cc
   by-clash Already e = cc
-  by-clash New {g} e = of-cond (λ (a : Admitted). a ≡ admitted.Clash g → New ≡ Clash g) (hasRoom ss fills orders f) (λ h x. cc) (λ h x. cc) e
+  by-clash New {g} e = of-cond (λ (a : Admitted). a ≡ admitted.Clash g → New ≡ Clash g) (hasRoom ss load s) (λ h x. cc) (λ h x. cc) e
 
-  by-already : (p : Placed) → admitBy ss fills orders f p ≡ admitted.Already → p ≡ Already
+  by-already : (p : Placed) → admitBy ss load s p ≡ admitted.Already → p ≡ Already
   by-already (Clash h) e = cc
   by-already Already e = refl
-  by-already New e = of-cond (λ (a : Admitted). a ≡ admitted.Already → New ≡ Already) (hasRoom ss fills orders f) (λ h x. cc) (λ h x. cc) e
+  by-already New e = of-cond (λ (a : Admitted). a ≡ admitted.Already → New ≡ Already) (hasRoom ss load s) (λ h x. cc) (λ h x. cc) e
 
-  by-full : (p : Placed) → admitBy ss fills orders f p ≡ admitted.Full → (p ≡ New) × (hasRoom ss fills orders f ≡ false)
+  by-full : (p : Placed) → admitBy ss load s p ≡ admitted.Full → (p ≡ New) × (hasRoom ss load s ≡ false)
   by-full (Clash h) e = (cc, cc)
   by-full Already e = (cc, cc)
-  by-full New e = of-cond (λ (a : Admitted). a ≡ admitted.Full → (New ≡ New) × (hasRoom ss fills orders f ≡ false)) (hasRoom ss fills orders f) (λ h x. (refl, cc)) (λ h x. (refl, h)) e
+  by-full New e = of-cond (λ (a : Admitted). a ≡ admitted.Full → (New ≡ New) × (hasRoom ss load s ≡ false)) (hasRoom ss load s) (λ h x. (refl, cc)) (λ h x. (refl, h)) e
 
-  by-new : (p : Placed) {b : Booking} → admitBy ss fills orders f p ≡ admitted.New b → (p ≡ New) × (hasRoom ss fills orders f ≡ true) × (b ≡ bookingOf ss fills orders f)
+  by-new : (p : Placed) {b : Booking} → admitBy ss load s p ≡ admitted.New b → (p ≡ New) × (hasRoom ss load s ≡ true) × (b ≡ bookingOf ss load s)
   by-new (Clash h) e = (cc, cc, cc)
   by-new Already e = (cc, cc, cc)
   by-new New {b} e =
-      of-cond (λ (a : Admitted). a ≡ admitted.New b → (New ≡ New) × (hasRoom ss fills orders f ≡ true) × (b ≡ bookingOf ss fills orders f)) (hasRoom ss fills orders f)
+      of-cond (λ (a : Admitted). a ≡ admitted.New b → (New ≡ New) × (hasRoom ss load s ≡ true) × (b ≡ bookingOf ss load s)) (hasRoom ss load s)
       (λ h x. (refl, h, cc)) (λ h x. (refl, cc, cc)) e
 
-  pub admitted-clash : {g : Fault} → admitOf ss fills orders f ≡ admitted.Clash g → place ss f ≡ Clash g
-  admitted-clash e = by-clash (place ss f) (sym admit-is ∙ e)
+  pub admitted-clash : {g : Fault} → admitOf ss load s ≡ admitted.Clash g → place ss s ≡ Clash g
+  admitted-clash e = by-clash (place ss s) (sym admit-is ∙ e)
 
-  pub admitted-already : admitOf ss fills orders f ≡ admitted.Already → place ss f ≡ Already
-  admitted-already e = by-already (place ss f) (sym admit-is ∙ e)
+  pub admitted-already : admitOf ss load s ≡ admitted.Already → place ss s ≡ Already
+  admitted-already e = by-already (place ss s) (sym admit-is ∙ e)
 
-  pub admitted-full : admitOf ss fills orders f ≡ admitted.Full → (place ss f ≡ New) × (hasRoom ss fills orders f ≡ false)
-  admitted-full e = by-full (place ss f) (sym admit-is ∙ e)
+  pub admitted-full : admitOf ss load s ≡ admitted.Full → (place ss s ≡ New) × (hasRoom ss load s ≡ false)
+  admitted-full e = by-full (place ss s) (sym admit-is ∙ e)
 
-  pub admitted-new : {b : Booking} → admitOf ss fills orders f ≡ admitted.New b → (place ss f ≡ New) × (hasRoom ss fills orders f ≡ true) × (b ≡ bookingOf ss fills orders f)
-  admitted-new e = by-new (place ss f) (sym admit-is ∙ e)
+  pub admitted-new : {b : Booking} → admitOf ss load s ≡ admitted.New b → (place ss s ≡ New) × (hasRoom ss load s ≡ true) × (b ≡ bookingOf ss load s)
+  admitted-new e = by-new (place ss s) (sym admit-is ∙ e)

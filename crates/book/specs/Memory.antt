@@ -8,10 +8,10 @@ use Rattle.octet.specs.Bytes.{part, joined}
 use Rattle.octet.specs.Splice.{splice}
 use Rattle.fill.specs.Slot.{Slot, slotWidth}
 
--- ---- the regions, one after another: the slots at the front, so many of them
+-- ---- the regions, one after another: the slots at the front, so many of them: 512 fills and 256 entries
 
 abbrev pub mostSlots : ℕ
-mostSlots = 512
+mostSlots = 768
 
 abbrev pub slotsAt : ℕ
 slotsAt = 0

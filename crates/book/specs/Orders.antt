@@ -1,10 +1,12 @@
--- The day's orders and fills, read from the slots themselves: "512 fills, 128 orders".
+-- The day's orders, fills and entries, read from the slots themselves: "512 fills, 128 orders", and 256 entries.
 use Prim.Native.Nat.{ℕ, _+_}
 use mathlib.Core.List.{List, [], _∷_, _++_}
 use mathlib.Core.Bool.{Bool, false, cond, _&&_, _||_, not}
+use lib.ListN.{length}
 use Rattle.octet.specs.Bytes.{same}
-use Rattle.fill.specs.Slot.{Slot, isFill, orderOf}
+use Rattle.fill.specs.Slot.{Slot, isFill, isEntry, orderOf}
 use Rattle.book.specs.Place.{fillsWith}
+use Rattle.book.specs.declared.Load.{Load}
 
 -- whether an OrderID is among some
 abbrev pub isAmong : List ℕ → List (List ℕ) → Bool
@@ -30,3 +32,15 @@ fillsAfter n (s ∷ ss) = fillsAfter (fillsWith n s) ss
 
 abbrev pub fillsOf : List Slot → ℕ
 fillsOf ss = fillsAfter 0 ss
+
+-- how many of the slots are such, and so how many are entries
+unfoldable pub countWhere : (Slot → Bool) → List Slot → ℕ
+countWhere p [] = 0
+countWhere p (s ∷ ss) = cond (p s) 1 0 + countWhere p ss
+
+abbrev pub entriesOf : List Slot → ℕ
+entriesOf ss = countWhere isEntry ss
+
+-- all three, as the slots have them
+abbrev pub loadOf : List Slot → Load
+loadOf ss = record { fills = fillsOf ss; orders = length (ordersOf ss); entries = entriesOf ss }

@@ -1,15 +1,14 @@
--- What is known of a fill among the day's slots: ExecID, order, room, in step. Over a list of slots of any length.
+-- What is known of a fill among the day's slots: ExecID, order, room, in step. Over a list of slots of any length. Entries has the same of an entry, and
+-- Admitting what is said of any slot.
 use Prim.Native.Nat.{ℕ, _+_, _-_}
 use mathlib.Core.List.{List, [], _∷_}
 use mathlib.Core.Option.{Option, none, some}
 use mathlib.Core.Bool.{Bool, true, false, cond, _&&_, _||_, not}
-use lib.ListN.{length}
 use lib.Dec.{ltb, eqb}
 use Rattle.octet.specs.Bytes.{same}
 use Rattle.octet.specs.Maybe.{find, isNone}
 use Rattle.answer.specs.Numbers.{fault, wrongValue}
 use Rattle.fill.specs.Slot.{Slot, isFill, execOf, orderOf, symbolOf, sideOf, sharesOf, priceOf, cumOf}
-use Rattle.book.specs.Memory.{mostSlots}
 use Rattle.book.specs.declared.Placed.{Placed}
 use Rattle.book.specs.declared.Placed.the-variants.{Clash, Already, New}
 
@@ -44,8 +43,8 @@ unfoldable pub byExec : List Slot → Slot → Option Slot → Placed
 byExec ss f none = byOrder f (find (sameOrder f) ss)
 byExec ss f (some k) = cond (sameContents f k) Already (Clash (fault wrongValue 17))
 
-unfoldable pub place : List Slot → Slot → Placed
-place ss f = byExec ss f (find (sameExec f) ss)
+unfoldable pub placeFill : List Slot → Slot → Placed
+placeFill ss f = byExec ss f (find (sameExec f) ss)
 
 abbrev pub isNew : Placed → Bool
 isNew (Clash f) = false
@@ -63,16 +62,15 @@ mostOrders = 128
 unfoldable pub knownOrder : List Slot → Slot → Bool
 knownOrder ss f = not (isNone (find (sameOrder f) ss))
 
--- how many fills and how many orders there are with a slot more. They are counted as slots are booked; an order is known by its fills
+-- how many fills and how many orders there are with a fill more. They are counted as slots are booked; an order is known by its fills
 abbrev pub fillsWith : ℕ → Slot → ℕ
 fillsWith fills f = cond (isFill f) (fills + 1) fills
 
 unfoldable pub ordersWith : List Slot → ℕ → Slot → ℕ
 ordersWith ss orders f = cond (knownOrder ss f) orders (orders + 1)
 
--- fills and orders are counted each for itself; a slot is left wherever the counts are those of the slots
-unfoldable pub hasRoom : List Slot → ℕ → ℕ → Slot → Bool
-hasRoom ss fills orders f = ltb (length ss) mostSlots && (ltb fills mostFills && (knownOrder ss f || ltb orders mostOrders))
+unfoldable pub fillRoom : List Slot → ℕ → ℕ → Slot → Bool
+fillRoom ss fills orders f = ltb fills mostFills && (knownOrder ss f || ltb orders mostOrders)
 
 -- ---- in step
 

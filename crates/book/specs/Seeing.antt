@@ -12,6 +12,7 @@ use Rattle.fill.specs.Slot.{Slot, slotWidth, execOf, orderOf, sharesOf}
 use Rattle.answer.specs.Numbers.{largest}
 use Rattle.book.specs.Place.{sameExec, sameOrder, byExec, sumWhere, mostFills, mostOrders}
 use Rattle.book.specs.Memory.{mostSlots, slotsIn, slotAt}
+use Rattle.book.specs.declared.Load.{Load}
 use Rattle.book.specs.declared.Placed.{Placed}
 use Rattle.book.specs.declared.Seen.{Seen}
 use Rattle.book.specs.declared.Glance.{Glance}
@@ -46,10 +47,10 @@ seenOrder seen f s i = record {
   booked = cond (sameOrder f s) (sharesOf s) 0 + seen .booked;
 }
 
--- room, and the count of orders, where `known` is the first fill of the order, or no bytes
-abbrev pub roomFor : ℕ → ℕ → ℕ → Slot → Bool
-roomFor last fills orders known =
-    ltb last mostSlots && (ltb fills mostFills && (not (isNone (someSlot known)) || ltb orders mostOrders))
+-- room for a fill, and the count of orders, where `known` is the first fill of the order, or no bytes
+abbrev pub roomFor : ℕ → Load → Slot → Bool
+roomFor last load known =
+    ltb last mostSlots && (ltb (load .fills) mostFills && (not (isNone (someSlot known)) || ltb (load .orders) mostOrders))
 
 abbrev pub ordersFor : ℕ → Slot → ℕ
 ordersFor orders known = min (cond (not (isNone (someSlot known))) orders (orders + 1)) largest

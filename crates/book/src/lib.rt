@@ -1,5 +1,7 @@
-// The day's fills, in memory that the caller lends whole, with their counts by value: what becomes of a fill among them, by one
-// walk over them, and one fill more.
+// The day's slots, in memory that the caller lends whole, with their counts by value: what becomes of a fill or an entry among them,
+// by one walk over them, and one slot more.
+mod entries; // an entry among the day's
+
 ghost use mathlib.Core.Path.{_≡_};
 ghost use Prim.Native.Nat.{_+_, _-_, _*_, _≤_, _<_, min};
 ghost use lib.ListN.{length};
@@ -7,7 +9,8 @@ ghost use lib.Dec.{eqb};
 ghost use Rattle.octet.specs.Bytes.{same};
 ghost use Rattle.octet.specs.Places.{wordAt};
 ghost use Rattle.answer.specs.Numbers.{fault, wrongValue, largest};
-ghost use Rattle.fill.specs.Slot.{slotWidth, execOf, orderOf, sharesOf, cumOf};
+ghost use mathlib.Core.Bool.{false};
+ghost use Rattle.fill.specs.Slot.{slotWidth, isEntry, execOf, orderOf, sharesOf, cumOf};
 ghost use Rattle.book.specs.Place.{sameContents, sameExec, sameOrder, byOrder, fillsWith, carried};
 ghost use Rattle.book.specs.Memory.{mostSlots, bookWidth, slotsIn, slotAt, fitsAfter, appended, holding};
 ghost use Rattle.book.specs.declared.Placed.the-variants.{Clash};
@@ -16,24 +19,38 @@ ghost use Rattle.book.specs.Seeing.{someSlot, Sees, Passes, seenExec, se
 use answer::Fault;
 use answer::reasons;
 use answer::tags;
+use entries::admit_entry;
 use fill::ID;
 use fill::SLOT;
 
-// A report among the day's fills: at odds with one of them, already booked, or new.
+// A slot among the day's: at odds with one of them, already booked, or new.
 pub enum Placed {
     Clash(Fault),
     Already,
     New,
 }
 
-// What a booking changes and answers: how many fills and orders there are then, and whether the fill is in step.
-pub struct Booking {
+// How many fills there are, of how many orders, and how many entries.
+pub struct Load {
     pub fills: u32,
     pub orders: u32,
+    pub entries: u32,
+}
+
+// Nothing booked.
+pub const NO_LOAD: Load = Load {
+    fills: 0,
+    orders: 0,
+    entries: 0,
+};
+
+// What a booking changes and answers: the load then, and whether a fill is in step.
+pub struct Booking {
+    pub load: Load,
     pub stepped: bool,
 }
 
-// What becomes of a fill among the day's: at odds with one of them, already booked, no room, or new, with what its booking
+// What becomes of a slot among the day's: at odds with one of them, already booked, no room, or new, with what its booking
 // changes and answers.
 pub enum Admitted {
     Clash(Fault),
@@ -57,8 +74,8 @@ struct Glance {
 }
 
 // The lent memory is regions, one after another. Today there is one, of slots: each is read and written through the functions
-// below.
-pub const SLOTS: usize = 512;
+// below. There are slots for all fills and all entries of a day.
+pub const SLOTS: usize = 768;
 
 const SLOTS_AT: usize = 0;
 
@@ -66,10 +83,12 @@ const SLOTS_SIZE: usize = SLOTS * SLOT;
 
 pub const BOOK: usize = SLOTS_SIZE;
 
-// "512 fills, 128 orders".
+// "512 fills, 128 orders"; "also at 256 such entries".
 const FILLS: u32 = 512;
 
 const ORDERS: u32 = 128;
+
+const ENTRIES: u32 = 256;
 
 // How many of count slots lie in the memory: those past its end are empty, and no search looks for one.
 fn inside(count: usize) -> usize
@@ -285,16 +304,16 @@ fn by_exec(slot: &[u8], twin: &[u8], known: &[u8]) -> Placed
 }
 
 // "Then room: 512 fills, 128 orders", with a slot for one more after the last.
-fn has_room(last: usize, fills: u32, orders: u32, known: &[u8]) -> bool
-    ensures { λ r. ⌜ r ≡ roomFor last fills orders (now (known .entry)) ⌝ }
+fn has_room(last: usize, load: Load, known: &[u8]) -> bool
+    ensures { λ r. ⌜ r ≡ roomFor last load (now (known .entry)) ⌝ }
 {
     if SLOTS <= last {
         return false;
     }
-    if FILLS <= fills {
+    if FILLS <= load.fills {
         return false;
     }
-    if orders < ORDERS {
+    if load.orders < ORDERS {
         return true;
     }
     known.len() != 0
@@ -352,9 +371,10 @@ fn in_step(slot: &[u8], known: &[u8], booked: u64) -> bool
     wide(fill::cum_of(slot)) == carried + sum
 }
 
-// What becomes of a fill among the day's, by one walk over them. last is the last number given, as many slots there are.
-pub fn admit(book: &[u8; BOOK], last: usize, fills: u32, orders: u32, slot: &[u8]) -> Admitted
-    ensures { λ r. ⌜ r ≡ admitOf (slotsIn last (now (book .entry))) fills orders (now (slot .entry)) ⌝ }
+// What becomes of a fill among the day's, by one walk over them.
+fn admit_fill(book: &[u8; BOOK], last: usize, load: Load, slot: &[u8]) -> Admitted
+    requires { ⌜ isEntry (now slot) ≡ false ⌝ }
+    ensures { λ r. ⌜ r ≡ admitOf (slotsIn last (now (book .entry))) load (now (slot .entry)) ⌝ }
 {
     let seen = look(book, last, slot);
     let known = slot_at(book, seen.order);
@@ -362,16 +382,29 @@ pub fn admit(book: &[u8; BOOK], last: usize, fills: u32, orders: u32, slot: &[u8
         Placed::Clash(f) => Admitted::Clash(f),
         Placed::Already => Admitted::Already,
         Placed::New => {
-            if !has_room(last, fills, orders, known) {
+            if !has_room(last, load, known) {
                 return Admitted::Full;
             }
             Admitted::New(Booking {
-                fills: fills_with(fills, slot),
-                orders: orders_with(orders, known),
+                load: Load {
+                    fills: fills_with(load.fills, slot),
+                    orders: orders_with(load.orders, known),
+                    entries: load.entries,
+                },
                 stepped: in_step(slot, known, seen.booked),
             })
         }
     }
+}
+
+// What becomes of a slot among the day's. last is the last number given, as many slots there are.
+pub fn admit(book: &[u8; BOOK], last: usize, load: Load, slot: &[u8]) -> Admitted
+    ensures { λ r. ⌜ r ≡ admitOf (slotsIn last (now (book .entry))) load (now (slot .entry)) ⌝ }
+{
+    if fill::is_entry(slot) {
+        return admit_entry(book, last, load, slot);
+    }
+    admit_fill(book, last, load, slot)
 }
 
 // Where the i-th slot stands.

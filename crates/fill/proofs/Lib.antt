@@ -1,4 +1,6 @@
+pub mod Made
 pub mod Fields
+pub mod Entry
 pub mod Lines
 pub mod Lawful
 pub mod Unique

@@ -1,9 +1,9 @@
--- A fill's line of the listing: how it is written word by word, and how long it is.
+-- A slot's line of the listing: how it is written word by word, and how long it is.
 --     line-short     a line has at most lineRoom bytes, 128
 use mathlib.Core.Path.{_≡_, refl, ap, _∙_}
-use mathlib.Core.List.{List, [], _∷_, _++_}
+use mathlib.Core.List.{List, [], _∷_, _++_, append-assoc}
 use mathlib.Core.Logic.{⊎-elim}
-use mathlib.Core.Bool.{true, cond}
+use mathlib.Core.Bool.{true, false, cond}
 use Prim.Native.Nat.{ℕ, suc, _+_, _≤_, _<_, _^_, _/_}
 use native.Mathlib.Nat.{zero-add, le-trans}
 use native.Mathlib.Omega.{arith}
@@ -12,17 +12,19 @@ use lib.ListN.{getD, List·getD-eq-default, length, take, drop, length-append, l
 use lib.Seq.{take-length, take-take}
 use Rattle.octet.specs.Bytes.{bytesOf, between, allIn, part}
 use Rattle.octet.specs.Places.{numberIn, bigEndian}
-use Rattle.octet.proofs.Cases.{le-or-lt, and-make}
+use Rattle.octet.proofs.Cases.{le-or-lt, of-cond, and-make}
 use Rattle.octet.proofs.Lists.{is-between, part-at, part-most}
 use Rattle.octet.proofs.Places.{below-pow, value-below}
 use Rattle.octet.specs.Splice.{splice, fitsAt}
 use Rattle.octet.specs.Padded.{textOf}
-use Rattle.text.specs.Decimal.{priceText}
+use Rattle.text.specs.Decimal.{decimal, priceText}
 use Rattle.text.specs.Writing.{puts, held, empty}
 use Rattle.text.proofs.Decimals.{decimal-length, fixed-length}
 use Rattle.text.proofs.Puts.{puts-puts, held-short}
 use Rattle.text.specs.declared.Text.{Text}
-use Rattle.fill.specs.Slot.{Slot, widthOf, placeOf, lineRoom, execOf, orderOf, symbolOf, sideOf, sharesOf, priceOf, timeOf, lineOf}
+use Rattle.fill.specs.Slot.{Slot, isEntry, widthOf, placeOf, lineRoom, execOf, orderOf, symbolOf, sideOf, sharesOf, priceOf, timeOf, lineFeed, fillLine}
+use Rattle.fill.specs.Entry.{entryWidthOf, entryPlaceOf, tradeOf, numberOf, entrySideOf, transactionOf, entryLine}
+use Rattle.fill.specs.Booked.{lineOf}
 
 -- a space and a word more
 pub word-put : (t x y : Text) (w v : List ℕ) → x ≡ puts t (bytesOf " ") → w ≡ v → y ≡ puts x (take (length w) w) → y ≡ puts t (bytesOf " " ++ v)
@@ -35,6 +37,30 @@ word-put t x y w v ex ew ey =
 pub time-cut : (s : Slot) → take 21 (timeOf s) ≡ timeOf s
 time-cut s = take-take 21 21 (drop (placeOf 8) s) (omega arith)
 
+-- an entry's, word by word
+six-words : (first space u v w x y last : List ℕ)
+    → puts (puts (puts (puts (puts (puts (puts empty first) (space ++ u)) (space ++ v)) (space ++ w)) (space ++ x)) (space ++ y)) last
+    ≡ puts empty ((first ++ space ++ (u ++ space ++ (v ++ space ++ (w ++ space ++ (x ++ space ++ y))))) ++ last)
+six-words first space u v w x y last = simp (puts-puts, append-assoc)
+
+pub entry-words : (n : ℕ) (s : Slot) (a b d e f g h i : Text) (trade : List ℕ) (number side transaction : ℕ)
+    → a ≡ empty → b ≡ puts a (bytesOf "C") → d ≡ puts b (bytesOf " " ++ decimal n) → trade ≡ tradeOf s → e ≡ puts d (bytesOf " " ++ textOf trade)
+    → number ≡ numberOf s → f ≡ puts e (bytesOf " " ++ decimal number) → side ≡ entrySideOf s → g ≡ puts f (bytesOf " " ++ decimal side)
+    → transaction ≡ transactionOf s → h ≡ puts g (bytesOf " " ++ decimal transaction) → i ≡ puts h lineFeed → i ≡ puts empty (entryLine n s)
+unfolding entryLine
+entry-words n s a b d e f g h i trade number side transaction ea eb ed et ee en ef es eg ex eh ei =
+    let line = six-words (bytesOf "C") (bytesOf " ") (decimal n) (textOf (tradeOf s)) (decimal (numberOf s)) (decimal (entrySideOf s)) (decimal (transactionOf s)) lineFeed in
+    rw (ei, eh, ex, eg, es, ef, en, ee, et, ed, eb, ea) line
+
+-- any slot's, by its first byte
+pub line-entry : (n : ℕ) (s : Slot) → isEntry s ≡ true → lineOf n s ≡ entryLine n s
+unfolding lineOf
+line-entry n s e = rw e
+
+pub line-fill : (n : ℕ) (s : Slot) → isEntry s ≡ false → lineOf n s ≡ fillLine n s
+unfolding lineOf
+line-fill n s e = rw e
+
 -- ---- how long
 pub text-most : (width : ℕ) (f : List ℕ) → length f ≤ suc width → length (textOf f) ≤ width
 unfolding textOf
@@ -46,9 +72,9 @@ price-most p h =
     let d = decimal-length 15 (p / 10000) (omega arith) in
     simp (length-append, fixed-length) (omega arith)
 
-line-by : (n : ℕ) (s : Slot) → n < 256 ^ 4 → sideOf s < 256 → sharesOf s < 256 ^ 4 → priceOf s < 256 ^ 8 → length (lineOf n s) ≤ 121
-unfolding lineOf
-line-by n s hn hs hq hp =
+fill-by : (n : ℕ) (s : Slot) → n < 256 ^ 4 → sideOf s < 256 → sharesOf s < 256 ^ 4 → priceOf s < 256 ^ 8 → length (fillLine n s) ≤ 121
+unfolding fillLine
+fill-by n s hn hs hq hp =
     let a = decimal-length 9 n (omega arith) in
     let b = text-most 20 (execOf s) (part-most (placeOf 0) (widthOf 0) s) in
     let d = text-most 20 (orderOf s) (part-most (placeOf 1) (widthOf 1) s) in
@@ -57,6 +83,16 @@ line-by n s hn hs hq hp =
     let g = decimal-length 9 (sharesOf s) (omega arith) in
     let h = price-most (priceOf s) hp in
     let i = part-most (placeOf 8) (widthOf 8) s in
+    simp length-append (omega arith)
+
+entry-by : (n : ℕ) (s : Slot) → n < 256 ^ 4 → numberOf s < 256 ^ 4 → entrySideOf s < 256 → transactionOf s < 256 → length (entryLine n s) ≤ 53
+unfolding entryLine
+entry-by n s hn hk hs ht =
+    let a = decimal-length 9 n (omega arith) in
+    let b = text-most 20 (tradeOf s) (part-most (entryPlaceOf 0) (entryWidthOf 0) s) in
+    let d = decimal-length 9 (numberOf s) (omega arith) in
+    let e = decimal-length 2 (entrySideOf s) (omega arith) in
+    let f = decimal-length 2 (transactionOf s) (omega arith) in
     simp length-append (omega arith)
 
 -- numbers of bytes fit
@@ -78,9 +114,15 @@ number-most at n s h =
 
 -- a line has at most lineRoom bytes, 128, whatever the bytes of the slot
 pub line-short : (n : ℕ) (s : Slot) → n < 256 ^ 4 → ((i : ℕ) → getD s i 0 < 256) → length (lineOf n s) ≤ lineRoom
+unfolding lineOf
 line-short n s h b =
-    let e = line-by n s h (omega (arith, number-most (placeOf 3) (widthOf 3) s b)) (number-most (placeOf 5) (widthOf 5) s b) (number-most (placeOf 6) (widthOf 6) s b) in
-    omega arith
+    let number = number-most (entryPlaceOf 1) (entryWidthOf 1) s b in
+    let code = number-most (entryPlaceOf 2) (entryWidthOf 2) s b in
+    let kind = number-most (entryPlaceOf 3) (entryWidthOf 3) s b in
+    let side = number-most (placeOf 3) (widthOf 3) s b in
+    let e = entry-by n s h number (omega arith) (omega arith) in
+    let f = fill-by n s h (omega arith) (number-most (placeOf 5) (widthOf 5) s b) (number-most (placeOf 6) (widthOf 6) s b) in
+    of-cond (λ (l : List ℕ). length l ≤ lineRoom) (isEntry s) (λ y. omega arith) (λ y. omega arith)
 
 -- so a text holds it whole
 pub line-held : (n : ℕ) (s : Slot) → length (lineOf n s) ≤ lineRoom → held (puts empty (lineOf n s)) ≡ lineOf n s

@@ -1,6 +1,9 @@
 -- No second answer, and no second lent bytes, satisfy the contract of a public function: proved of the contract itself (octet's Once.antt).
 use Rattle.octet.proofs.Once.{Once, alone, first, joined, _&_}
 use Rattle.fill.proofs.is_fill as is-fill
+use Rattle.fill.proofs.is_entry as is-entry
+use Rattle.fill.proofs.entries.key_of as key-of
+use Rattle.fill.proofs.entries.entry_with as entry-with
 use Rattle.fill.proofs.exec_of as exec-of
 use Rattle.fill.proofs.order_of as order-of
 use Rattle.fill.proofs.symbol_of as symbol-of
@@ -15,6 +18,15 @@ use Rattle.fill.proofs.write_line as write-line
 
 pub is-fill-one : Once is-fill.ended (λ M 𝓤. is-fill.clauses 𝓤) (λ κs r e. r)
 is-fill-one M 𝓤 H A mem run κs a g = (_, λ r e. alone 𝓤)
+
+pub is-entry-one : Once is-entry.ended (λ M 𝓤. is-entry.clauses 𝓤) (λ κs r e. r)
+is-entry-one M 𝓤 H A mem run κs a g = (_, λ r e. alone 𝓤)
+
+pub key-of-one : Once key-of.ended (λ M 𝓤. key-of.clauses 𝓤) (λ κs r e. r .now)
+key-of-one M 𝓤 H A mem run κs a g = (_, λ r e. alone 𝓤)
+
+pub entry-with-one : Once entry-with.ended (λ M 𝓤. entry-with.clauses 𝓤) (λ κs r e. r)
+entry-with-one M 𝓤 H A mem run κs a g = (_, λ r e. alone 𝓤)
 
 pub exec-of-one : Once exec-of.ended (λ M 𝓤. exec-of.clauses 𝓤) (λ κs r e. r .now)
 exec-of-one M 𝓤 H A mem run κs a g = (_, λ r e. alone 𝓤)

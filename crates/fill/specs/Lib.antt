@@ -1,1 +1,3 @@
 pub mod Slot
+pub mod Entry
+pub mod Booked

@@ -1,4 +1,5 @@
--- A fill is a slot: a byte that says that it is one, and the body of its note. Its parts, when it is lawful, and its line of the listing.
+-- A slot is a byte that says what it is, a fill or an entry, and its body. Of a fill: its parts, when it is lawful, and its line of the listing. Entry has the same of an entry,
+-- and Booked what is said of any slot.
 use Prim.Native.Nat.{ℕ, _+_}
 use mathlib.Core.List.{List, [], _∷_, _++_}
 use mathlib.Core.Bool.{Bool, cond, _&&_}
@@ -64,9 +65,15 @@ valuesOf f =
 unfoldable pub bodyOf : Fill → List ℕ
 bodyOf f = laid slotParts (valuesOf f)
 
--- the first byte of a slot says fill
+-- the first byte of a slot says what it is
 abbrev pub fillMark : ℕ
 fillMark = 1
+
+abbrev pub entryMark : ℕ
+entryMark = 2
+
+abbrev pub markOf : Slot → ℕ
+markOf s = getD s 0 0
 
 abbrev pub slotOf : List ℕ → Slot
 slotOf body = fillMark ∷ body
@@ -75,7 +82,10 @@ abbrev pub noteBodyOf : Slot → List ℕ
 noteBodyOf s = drop 1 s
 
 abbrev pub isFill : Slot → Bool
-isFill s = eqb (getD s 0 0) fillMark
+isFill s = eqb (markOf s) fillMark
+
+abbrev pub isEntry : Slot → Bool
+isEntry s = eqb (markOf s) entryMark
 
 -- ---- the parts of a slot
 
@@ -128,8 +138,8 @@ sumsLawful s = leb 1 (sharesOf s) && leb (sharesOf s) (cumOf s) && leb (cumOf s)
 abbrev pub mostPrice : ℕ
 mostPrice = 99999999999
 
-unfoldable pub slotLawful : Slot → Bool
-slotLawful s =
+unfoldable pub fillLawful : Slot → Bool
+fillLawful s =
     textsLawful s && between 1 2 (sideOf s) && sumsLawful s && leb (priceOf s) mostPrice && isTime (timeOf s)
 
 -- ---- "number, ExecID, OrderID, symbol, side, LastShares, price with four decimals, time, single spaces"
@@ -158,8 +168,8 @@ figuresOf s = spaced (decimal (sideOf s) ∷ decimal (sharesOf s) ∷ priceText 
 abbrev pub lineFeed : List ℕ
 lineFeed = 10 ∷ []
 
-unfoldable pub lineOf : ℕ → Slot → List ℕ
-lineOf n s =
+unfoldable pub fillLine : ℕ → Slot → List ℕ
+fillLine n s =
     spaced (
     decimal n ∷ textOf (execOf s) ∷ textOf (orderOf s) ∷ textOf (symbolOf s) ∷ decimal (sideOf s)
     ∷ decimal (sharesOf s) ∷ priceText (priceOf s) ∷ timeOf s ∷ []) ++ lineFeed

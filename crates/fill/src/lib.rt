@@ -1,4 +1,6 @@
-// A fill is a slot: a byte that says that it is one, and the body of its note as the F note has it after E and O.
+// A slot is a byte that says what it is, a fill or an entry, and its body: here the fill's, as the F note has it after E and O, and what is said of any slot.
+mod entries; // the entry's
+
 ghost use mathlib.Core.Path.{_≡_};
 ghost use mathlib.Core.Bool.{cond};
 ghost use mathlib.Core.List.{_++_};
@@ -11,11 +13,15 @@ ghost use Rattle.parts.specs.Relaid.{filled};
 ghost use Rattle.parts.specs.Parts.{textField};
 ghost use Rattle.text.specs.Decimal.{decimal};
 ghost use Rattle.text.specs.Writing.{empty, puts};
-ghost use Rattle.fill.specs.Slot.{fillOf, widthOf, fullTime, bodyOf, slotOf, isFill};
+ghost use Rattle.fill.specs.Slot.{fillOf, widthOf, fullTime, bodyOf, slotOf, isFill, isEntry};
 ghost use Rattle.fill.specs.Slot.{execOf, orderOf, symbolOf, sideOf, quantityOf, sharesOf, priceOf, cumOf, timeOf};
-ghost use Rattle.fill.specs.Slot.{textLawful, textsLawful, sumsLawful, slotLawful, lineRoom, lineLeast, namesOf, figuresOf, lineOf};
+ghost use Rattle.fill.specs.Slot.{textLawful, textsLawful, sumsLawful, fillLawful, lineRoom, lineLeast, namesOf, figuresOf, fillLine};
+ghost use Rattle.fill.specs.Booked.{slotLawful, lineOf};
 use answer::MOST_CONTRACTS;
 use answer::Setup;
+pub use entries::ENTRY_WIDTHS;
+pub use entries::entry_with;
+pub use entries::key_of;
 use octet::part;
 use text::Text;
 
@@ -50,13 +56,21 @@ const TIME_AT: usize = CUM_AT + 4;
 // How many bytes a slot has.
 pub const SLOT: usize = TIME_AT + TIME;
 
-// The first byte of a slot, where it is a fill.
+// The first byte of a slot, where it is a fill, and where it is an entry.
 pub const IS_FILL: u8 = 1;
+
+pub const IS_ENTRY: u8 = 2;
 
 pub fn is_fill(s: &[u8]) -> bool
     ensures { λ r. ⌜ r ≡ isFill (now (s .entry)) ⌝ }
 {
     octet::byte_at(s, 0) == IS_FILL
+}
+
+pub fn is_entry(s: &[u8]) -> bool
+    ensures { λ r. ⌜ r ≡ isEntry (now (s .entry)) ⌝ }
+{
+    octet::byte_at(s, 0) == IS_ENTRY
 }
 
 pub fn exec_of(s: &[u8]) -> &[u8]
@@ -203,9 +217,9 @@ fn sums_lawful(s: &[u8]) -> bool
     quantity <= MOST_CONTRACTS
 }
 
-// Whether a slot's body is so formed, with values that a report can have.
-pub fn is_lawful(s: &[u8]) -> bool
-    ensures { λ r. ⌜ r ≡ slotLawful (now (s .entry)) ⌝ }
+// Whether a fill's body is so formed, with values that a report can have.
+fn is_lawful_fill(s: &[u8]) -> bool
+    ensures { λ r. ⌜ r ≡ fillLawful (now (s .entry)) ⌝ }
 {
     if !texts_lawful(s) {
         return false;
@@ -224,6 +238,16 @@ pub fn is_lawful(s: &[u8]) -> bool
         return false;
     }
     value::is_time(time_of(s))
+}
+
+// Whether a slot is lawful: a fill, or an entry.
+pub fn is_lawful(s: &[u8]) -> bool
+    ensures { λ r. ⌜ r ≡ slotLawful (now (s .entry)) ⌝ }
+{
+    if is_entry(s) {
+        return entries::is_lawful_entry(s);
+    }
+    is_lawful_fill(s)
 }
 
 // A space and the text of a field more.
@@ -261,11 +285,21 @@ fn figures(t: Text, s: &[u8]) -> Text
 }
 
 // The line of fill n, with its line feed.
-fn line_text(n: u32, s: &[u8]) -> Text
-    ensures { λ r. ⌜ r ≡ puts empty (lineOf n (now (s .entry))) ⌝ }
+fn fill_text(n: u32, s: &[u8]) -> Text
+    ensures { λ r. ⌜ r ≡ puts empty (fillLine n (now (s .entry))) ⌝ }
 {
     let price = figures(names(n, s), s);
     price.put(b' ').part(time_of(s), TIME).put(b'\n')
+}
+
+// The line of slot n: a fill's, or an entry's.
+fn line_text(n: u32, s: &[u8]) -> Text
+    ensures { λ r. ⌜ r ≡ puts empty (lineOf n (now (s .entry))) ⌝ }
+{
+    if is_entry(s) {
+        return entries::entry_text(n, s);
+    }
+    fill_text(n, s)
 }
 
 // No line is longer: "line buffer under 128 bytes".
@@ -278,7 +312,7 @@ pub fn line_least(setup: Setup) -> usize
     LINE
 }
 
-// Writes the line of fill n from the front of `line`, and says how long it is; where it does not fit nothing changes, and
+// Writes the line of slot n from the front of `line`, and says how long it is; where it does not fit nothing changes, and
 // the answer is 0. It has at most LINE bytes.
 pub fn write_line(n: u32, s: &[u8], line: &mut [u8]) -> usize
     ensures { λ r. ⌜ now (line .exit) ≡ splice (now (line .entry)) 0 (lineOf n (now (s .entry))) ⌝ }

@@ -1,9 +1,10 @@
--- Laws of the listing: no listing has more than 65,536 bytes; its first line counts the waiting fills and their contracts; and the loops that sum
--- the contracts and write the lines.
+-- Laws of the listing: no listing has more than 65,536 bytes; its first line counts the waiting fills and their contracts; and the loops that count
+-- the fills, sum the contracts and write the lines.
 use Prim.Native.Nat.{ℕ, zero, suc, _+_, _-_, _*_, _/_, _≤_, _<_, _^_, min}
 use mathlib.Core.Path.{_≡_, sym, ap, ap₂, _∙_, subst}
 use mathlib.Core.List.{List, [], _∷_, _++_}
-use mathlib.Core.Bool.{true, cond, _&&_}
+use mathlib.Core.Logic.{⊎-elim}
+use mathlib.Core.Bool.{true, false, cond, _&&_}
 use native.Mathlib.Nat.{sub-self}
 use native.Mathlib.Omega.{arith}
 use lib.ListN.{length, take, drop, length-append, length-take, length-drop}
@@ -12,20 +13,59 @@ use lib.Dec.{leb}
 use borrow.Author.Tests.{leb-true, ltb-false, lt-ltb, le-ltb}
 use Rattle.octet.specs.Bytes.{between, part}
 use Rattle.octet.specs.Splice.{splice, fitsAt}
-use Rattle.octet.proofs.Cases.{of-cond, cond-true, cond-false, and-both, and-left, and-right}
+use Rattle.octet.proofs.Cases.{bool-case, of-cond, cond-true, cond-false, and-both, and-left, and-right}
 use Rattle.octet.proofs.Lists.{part-most, between-high, splice-join, splice-then, splice-nil, splice-read, splice-length, fits-true}
 use Rattle.text.specs.Decimal.{priceText}
 use Rattle.text.proofs.Decimals.{decimal-length, fixed-length}
 use Rattle.value.specs.Value.{isTime}
-use Rattle.fill.specs.Slot.{Slot, placeOf, widthOf, isFill, execOf, orderOf, symbolOf, sideOf, sharesOf, priceOf, timeOf, textsLawful, sumsLawful, mostPrice, slotLawful, lineOf}
-use Rattle.answer.specs.Numbers.{mostContracts, largest}
-use Rattle.fill.proofs.Lawful.{lawful-sums}
-use Rattle.fill.proofs.Lines.{text-most}
+use Rattle.fill.specs.Slot.{
+  Slot,
+  placeOf,
+  widthOf,
+  isFill,
+  isEntry,
+  execOf,
+  orderOf,
+  symbolOf,
+  sideOf,
+  sharesOf,
+  priceOf,
+  timeOf,
+  textsLawful,
+  sumsLawful,
+  mostPrice,
+  fillLawful,
+  fillLine,
+}
+use Rattle.fill.specs.Entry.{
+  entryPlaceOf,
+  entryWidthOf,
+  tradeOf,
+  numberOf,
+  entrySideOf,
+  transactionOf,
+  correctionOf,
+  entrySharesOf,
+  entryPriceOf,
+  entryTimeOf,
+  namesLawful,
+  codesLawful,
+  entryLawful,
+  entryLine,
+}
+use Rattle.fill.specs.Booked.{IsSlot, slotLawful, lineOf}
+use Rattle.answer.specs.Numbers.{nineDigits, mostContracts, largest}
+use Rattle.fill.proofs.Lawful.{lawful-sums, lawful-fill, lawful-entry, no-entry}
+use Rattle.fill.proofs.Lines.{text-most, line-fill, line-entry}
 use Rattle.book.specs.Memory.{mostSlots, slotsIn, slotAt}
-use Rattle.book.specs.Place.{sumWhere}
+use Rattle.book.specs.Place.{mostFills, sumWhere, fillsWith}
+use Rattle.book.specs.Entries.{mostEntries}
+use Rattle.book.specs.Orders.{fillsAfter, fillsOf, countWhere, entriesOf}
 use Rattle.book.proofs.Slots.{slots-length, slots-step, slots-end}
+use Rattle.book.proofs.Orders.{fills-most}
+use Rattle.book.proofs.Counts.{fills-are, count-split}
 use Rattle.note.specs.Kept.{Kept, waiting}
-use Rattle.note.proofs.Keeping.{AllLawful}
+use Rattle.note.proofs.Keeping.{AllSlots, AllLawful, fills-all, entries-all}
 use Rattle.restart.specs.Restart.{Outcome, Again, Unlawful, restart, countsOf, told, bookAfter, HasSlots}
 use Rattle.restart.specs.declared.Counts.{Counts}
 use Rattle.restart.specs.declared.Restarted.the-variants as restarted
@@ -35,16 +75,16 @@ use Rattle.text.proofs.Puts.{puts-puts, held-short}
 use Rattle.restart.proofs.Going.{GivenIn, restart-given}
 use Rattle.listing.specs.Listing.{contracts, linesFrom, firstOf, firstLine, damaged, waitingPage, printed, longestFile, isTooLong, tooLong, listing, bookListed, linesIn}
 
--- ---- how long a line is: that of a lawful slot has at most 99 bytes
-lawful-figures : (s : Slot) → slotLawful s ≡ true → (sideOf s ≤ 2) × (priceOf s ≤ mostPrice)
-unfolding slotLawful
-lawful-figures s t =
+-- ---- how long a line is: that of a lawful fill has at most 99 bytes, that of a lawful entry at most 41
+fill-figures : (s : Slot) → fillLawful s ≡ true → (sideOf s ≤ 2) × (priceOf s ≤ mostPrice)
+unfolding fillLawful
+fill-figures s t =
     let a = and-left (textsLawful s && between 1 2 (sideOf s) && sumsLawful s && leb (priceOf s) mostPrice) (isTime (timeOf s)) t in
     let b = and-both (textsLawful s && between 1 2 (sideOf s) && sumsLawful s) (leb (priceOf s) mostPrice) a in
     let d = and-left (textsLawful s && between 1 2 (sideOf s)) (sumsLawful s) (b .0) in
     (between-high 1 2 (sideOf s) (and-right (textsLawful s) (between 1 2 (sideOf s)) d), leb-true (priceOf s) mostPrice (b .1))
 
-pub lawful-shares : (s : Slot) → slotLawful s ≡ true → sharesOf s ≤ mostContracts
+pub lawful-shares : (s : Slot) → fillLawful s ≡ true → sharesOf s ≤ mostContracts
 lawful-shares s t =
     let f = lawful-sums s t in
     let a = f .cum in
@@ -52,10 +92,10 @@ lawful-shares s t =
     let d = f .most in
     omega arith
 
-pub line-most : (n : ℕ) (s : Slot) → n < 1000 → slotLawful s ≡ true → length (lineOf n s) ≤ 99
-unfolding lineOf priceText
-line-most n s hn t =
-    let z = lawful-figures s t in
+pub fill-line-most : (n : ℕ) (s : Slot) → n < 1000 → fillLawful s ≡ true → length (fillLine n s) ≤ 99
+unfolding fillLine priceText
+fill-line-most n s hn t =
+    let z = fill-figures s t in
     let q = lawful-shares s t in
     let p = z .1 in
     let w = z .0 in
@@ -69,17 +109,67 @@ line-most n s hn t =
     let i = part-most (placeOf 8) (widthOf 8) s in
     simp (length-append, fixed-length) (omega arith)
 
-lines-most : (ss : List Slot) (n : ℕ) → n + length ss ≤ 1000 → AllLawful ss → length (linesFrom n ss) ≤ 99 * length ss
-unfolding linesFrom
-lines-most [] n h w = omega arith
-lines-most (s ∷ ss) n h w =
-    omega (arith, length-append (lineOf n s) (linesFrom (n + 1) ss), line-most n s (omega arith) (w .0), lines-most ss (n + 1) (omega arith) (w .1))
+entry-codes : (s : Slot) → entryLawful s ≡ true → (numberOf s ≤ nineDigits) × (entrySideOf s ≤ 2) × (transactionOf s ≤ 2)
+unfolding entryLawful
+entry-codes s t =
+    let shares = between 1 mostContracts (entrySharesOf s) in
+    let price = leb (entryPriceOf s) mostPrice in
+    let number = leb (numberOf s) nineDigits in
+    let side = between 1 2 (entrySideOf s) in
+    let transaction = leb (transactionOf s) 2 in
+    let a = and-left (namesLawful s && codesLawful s && shares && price) (isTime (entryTimeOf s)) t in
+    let b = and-left (namesLawful s && codesLawful s) shares (and-left (namesLawful s && codesLawful s && shares) price a) in
+    let d = and-left (number && side && transaction) (between 1 5 (correctionOf s)) (and-right (namesLawful s) (codesLawful s) b) in
+    let e = and-both (number && side) transaction d in
+    let f = and-both number side (e .0) in
+    (leb-true (numberOf s) nineDigits (f .0), between-high 1 2 (entrySideOf s) (f .1), leb-true (transactionOf s) 2 (e .1))
+
+pub entry-line-most : (n : ℕ) (s : Slot) → n < 1000 → entryLawful s ≡ true → length (entryLine n s) ≤ 41
+unfolding entryLine
+entry-line-most n s hn t =
+    let z = entry-codes s t in
+    let p = z .0 in
+    let q = z .1 in
+    let w = z .2 in
+    let a = decimal-length 2 n (omega arith) in
+    let b = text-most 20 (tradeOf s) (part-most (entryPlaceOf 0) (entryWidthOf 0) s) in
+    let d = decimal-length 8 (numberOf s) (omega arith) in
+    let e = decimal-length 0 (entrySideOf s) (omega arith) in
+    let f = decimal-length 0 (transactionOf s) (omega arith) in
+    simp length-append (omega arith)
+
+-- by its first byte
+line-of-entry : (n : ℕ) (s : Slot) → n < 1000 → slotLawful s ≡ true → isEntry s ≡ true → length (lineOf n s) ≤ 41
+line-of-entry n s h t e = omega (arith, ap length (line-entry n s e), entry-line-most n s h (sym (lawful-entry s e) ∙ t))
+
+line-of-fill : (n : ℕ) (s : Slot) → n < 1000 → slotLawful s ≡ true → isEntry s ≡ false → length (lineOf n s) ≤ 99
+line-of-fill n s h t e = omega (arith, ap length (line-fill n s e), fill-line-most n s h (sym (lawful-fill s e) ∙ t))
+
+pub line-most : (n : ℕ) (s : Slot) → n < 1000 → slotLawful s ≡ true → length (lineOf n s) ≤ 99
+line-most n s h t =
+    ⊎-elim (λ e. omega (arith, line-of-entry n s h t e)) (λ e. line-of-fill n s h t e) (bool-case (isEntry s))
+
+line-by-kind : (n : ℕ) (s : Slot) → n < 1000 → IsSlot s → slotLawful s ≡ true → length (lineOf n s) ≤ 99 * cond (isFill s) 1 0 + 41 * cond (isEntry s) 1 0
+line-by-kind n s h i t =
+    ⊎-elim
+    (λ f. omega (arith, cond-true {A = ℕ} (isFill s) 1 0 f, line-of-fill n s h t (no-entry s f)))
+    (λ e. omega (arith, cond-true {A = ℕ} (isEntry s) 1 0 e, line-of-entry n s h t e))
+    (i .marked)
+
+lines-most : (ss : List Slot) (n : ℕ) → n + length ss ≤ 1000 → AllSlots ss → AllLawful ss → length (linesFrom n ss) ≤ 99 * countWhere isFill ss + 41 * entriesOf ss
+unfolding linesFrom countWhere
+lines-most [] n h i w = omega arith
+lines-most (s ∷ ss) n h i w =
+    let a = line-by-kind n s (omega arith) (i .0) (w .0) in
+    let b = lines-most ss (n + 1) (omega arith) (i .1) (w .1) in
+    omega (arith, length-append (lineOf n s) (linesFrom (n + 1) ss))
 
 sum-most : (ss : List Slot) → AllLawful ss → contracts ss ≤ mostContracts * length ss
 unfolding sumWhere
 sum-most [] w = omega arith
 sum-most (s ∷ ss) w =
-    let a : cond (isFill s) (sharesOf s) 0 ≤ mostContracts = of-cond (λ (n : ℕ). n ≤ mostContracts) (isFill s) (λ e. lawful-shares s (w .0)) (λ e. omega arith) in
+    let a : cond (isFill s) (sharesOf s) 0 ≤ mostContracts =
+    of-cond (λ (n : ℕ). n ≤ mostContracts) (isFill s) (λ e. lawful-shares s (sym (lawful-fill s (no-entry s e)) ∙ w .0)) (λ e. omega arith) in
     omega (arith, sum-most ss (w .1))
 
 pub first-most : (n sum : ℕ) → n < 10 ^ 20 → sum < 10 ^ 20 → length (firstOf n sum) ≤ 60
@@ -93,22 +183,26 @@ pub damaged-most : (at : ℕ) → at < 10 ^ 20 → length (damaged at) ≤ 32
 unfolding damaged
 damaged-most at h = let a = decimal-length 19 at h in simp length-append (omega arith)
 
-all-drop : (k : ℕ) (ss : List Slot) → AllLawful ss → AllLawful (drop k ss)
-all-drop zero ss w = w
-all-drop (suc k) [] w = tt
-all-drop (suc k) (s ∷ ss) w = all-drop k ss (w .1)
+all-drop : (k : ℕ) (ss : List Slot) → AllSlots ss → AllLawful ss → AllSlots (drop k ss) × AllLawful (drop k ss)
+all-drop zero ss i w = (i, w)
+all-drop (suc k) [] i w = (tt, tt)
+all-drop (suc k) (s ∷ ss) i w = all-drop k ss (i .1) (w .1)
 
+-- at most 512 lines of fills, 256 of entries, and the first
 printed-most : (most : ℕ) (o : Outcome) → most ≤ longestFile → GivenIn most o → length (printed o) ≤ longestFile
 printed-most most (Unlawful at) h g = omega (arith, damaged-most at (omega arith))
 printed-most most (Again q whole) h g =
+    let ss = q .slots in
     let ws = waiting q in
     let few = g .sound .few in
     let mark = g .sound .mark in
-    let w : AllLawful ws = all-drop (q .acked) (q .slots) (g .sound .proper) in
-    let l = length-drop (q .acked) (q .slots) in
-    let c = sum-most ws w in
-    let a = first-most (length ws) (contracts ws) (omega arith) (omega arith) in
-    let b = lines-most ws (q .acked + 1) (omega arith) w in
+    let w = all-drop (q .acked) ss (g .sound .each) (g .sound .proper) in
+    let l = length-drop (q .acked) ss in
+    let c = sum-most ws (w .1) in
+    let a = first-most (fillsOf ws) (contracts ws) (omega (arith, fills-most ws)) (omega arith) in
+    let b = lines-most ws (q .acked + 1) (omega arith) (w .0) (w .1) in
+    let fills : countWhere isFill ws ≤ mostFills = omega (arith, count-split isFill (q .acked) ss, fills-are ss, fills-all q (g .sound), g .sound .fills-few) in
+    let entries : entriesOf ws ≤ mostEntries = omega (arith, count-split isEntry (q .acked) ss, entries-all q (g .sound), g .sound .entries-few) in
     omega (arith, length-append (firstLine ws) (linesFrom (q .acked + 1) ws))
 
 -- 65,536 bytes are always enough
@@ -128,13 +222,23 @@ pub listing-is : (notes : List ℕ) → length notes ≤ longestFile → listing
 unfolding listing
 listing-is notes h = cond-false (isTooLong notes) tooLong (printed (restart notes)) (le-ltb longestFile (length notes) h)
 
--- the first line counts the waiting fills and their contracts, and their lines follow
+-- the first line counts the waiting fills and their contracts, and the lines of all that wait follow
 pub listing-counts : (notes : List ℕ) (q : Kept) (whole : ℕ) → length notes ≤ longestFile → restart notes ≡ Again q whole
-    → listing notes ≡ firstOf (length (waiting q)) (contracts (waiting q)) ++ linesFrom (q .acked + 1) (waiting q)
+    → listing notes ≡ firstOf (fillsOf (waiting q)) (contracts (waiting q)) ++ linesFrom (q .acked + 1) (waiting q)
 listing-counts notes q whole h e = listing-is notes h ∙ ap printed e
 
 -- ---- the loops: the slots from the i-th on
 module _ (n i : ℕ) (m : List ℕ) where
+  pub count-step : (fills : ℕ) (s : Slot) → i < n → s ≡ slotAt i m
+      → fillsAfter (fillsWith fills s) (drop (i + 1) (slotsIn n m)) ≡ fillsAfter fills (drop i (slotsIn n m))
+  unfolding fillsAfter
+  count-step fills s h e =
+      ap (λ (x : Slot). fillsAfter (fillsWith fills x) (drop (i + 1) (slotsIn n m))) e ∙ sym (ap (fillsAfter fills) (slots-step n i m h))
+
+  pub count-done : (fills : ℕ) → n ≤ i → fillsAfter fills (drop i (slotsIn n m)) ≡ fills
+  unfolding fillsAfter
+  count-done fills h = ap (fillsAfter fills) (slots-end n i m h)
+
   pub sum-step : (s : Slot) → i < n → s ≡ slotAt i m
       → contracts (drop i (slotsIn n m)) ≡ cond (isFill s) (sharesOf s) 0 + contracts (drop (i + 1) (slotsIn n m))
   unfolding sumWhere
@@ -183,31 +287,31 @@ module _ (page₀ whole : List ℕ) (at done : ℕ) where
 pub write-start : (page whole : List ℕ) (at : ℕ) → (page ≡ splice page at (take (at - at) whole)) × (drop (at - at) whole ≡ whole)
 write-start page whole at = (sym (ap (λ (k : ℕ). splice page at (take k whole)) (sub-self at) ∙ splice-nil page at), ap (λ (k : ℕ). drop k whole) (sub-self at))
 
--- ---- the lines, from fill from + 1 on: so far up to place `end`, with those from the i-th on to come
-pub record Lined (page₀ book : List ℕ) (at from fills : ℕ) (page : List ℕ) (end i : ℕ) : Type 0 where
-  pub stands : page ≡ splice page₀ at (take (end - at) (linesIn from fills book))
-  pub to-come : drop (end - at) (linesIn from fills book) ≡ linesFrom (i + 1) (drop i (slotsIn fills book))
+-- ---- the lines, from slot from + 1 on: so far up to place `end`, with those from the i-th on to come
+pub record Lined (page₀ book : List ℕ) (at from last : ℕ) (page : List ℕ) (end i : ℕ) : Type 0 where
+  pub stands : page ≡ splice page₀ at (take (end - at) (linesIn from last book))
+  pub to-come : drop (end - at) (linesIn from last book) ≡ linesFrom (i + 1) (drop i (slotsIn last book))
   pub after : at ≤ end
-  pub within : end - at ≤ length (linesIn from fills book)
+  pub within : end - at ≤ length (linesIn from last book)
 
-pub lined-start : (page book : List ℕ) (at from fills : ℕ) → Lined page book at from fills page at from
-lined-start page book at from fills =
-    let g = write-start page (linesIn from fills book) at in
+pub lined-start : (page book : List ℕ) (at from last : ℕ) → Lined page book at from last page at from
+lined-start page book at from last =
+    let g = write-start page (linesIn from last book) at in
     record { stands = g .0; to-come = g .1; after = omega arith; within = omega arith }
 
-pub lined-turn : (page₀ book page page′ : List ℕ) (at from fills end i n len : ℕ) (s : Slot) → at + length (linesIn from fills book) ≤ length page₀
-    → Lined page₀ book at from fills page end i → i < fills → n ≡ i + 1 → s ≡ slotAt i book → page′ ≡ splice page end (lineOf n s) → len ≡ length (lineOf n s)
-    → Lined page₀ book at from fills page′ (end + len) (i + 1) × (end + len ≤ at + length (linesIn from fills book))
-lined-turn page₀ book page page′ at from fills end i n len s room h b en es ep el =
-    let whole = linesIn from fills book in
-    let rest = linesFrom (i + 1 + 1) (drop (i + 1) (slotsIn fills book)) in
+pub lined-turn : (page₀ book page page′ : List ℕ) (at from last end i n len : ℕ) (s : Slot) → at + length (linesIn from last book) ≤ length page₀
+    → Lined page₀ book at from last page end i → i < last → n ≡ i + 1 → s ≡ slotAt i book → page′ ≡ splice page end (lineOf n s) → len ≡ length (lineOf n s)
+    → Lined page₀ book at from last page′ (end + len) (i + 1) × (end + len ≤ at + length (linesIn from last book))
+lined-turn page₀ book page page′ at from last end i n len s room h b en es ep el =
+    let whole = linesIn from last book in
+    let rest = linesFrom (i + 1 + 1) (drop (i + 1) (slotsIn last book)) in
     let done = end - at in
     let x = lineOf (i + 1) s in
     let a = h .after in
     let w = h .within in
     let e : end ≡ at + done = omega arith in
     let lx : len ≡ length x = el ∙ ap (λ (k : ℕ). length (lineOf k s)) en in
-    let d : drop done whole ≡ x ++ rest = h .to-come ∙ lines-step fills i book s b es in
+    let d : drop done whole ≡ x ++ rest = h .to-come ∙ lines-step last i book s b es in
     let f : page′ ≡ splice page (at + done) x = ep ∙ ap₂ (λ (k j : ℕ). splice page k (lineOf j s)) e en in
     let g = write-more page₀ whole at done page page′ x rest room (h .stands) w d f in
     let k : done + length x ≡ end + len - at = omega arith in
@@ -221,11 +325,11 @@ lined-turn page₀ book page page′ at from fills end i n len s room h b en es 
       omega arith,
     )
 
-pub lined-done : (page₀ book page : List ℕ) (at from fills end i : ℕ) → Lined page₀ book at from fills page end i → fills ≤ i
-    → (page ≡ splice page₀ at (linesIn from fills book)) × (end ≡ at + length (linesIn from fills book))
-lined-done page₀ book page at from fills end i h b =
+pub lined-done : (page₀ book page : List ℕ) (at from last end i : ℕ) → Lined page₀ book at from last page end i → last ≤ i
+    → (page ≡ splice page₀ at (linesIn from last book)) × (end ≡ at + length (linesIn from last book))
+lined-done page₀ book page at from last end i h b =
     let a = h .after in
-    let g = write-done page₀ (linesIn from fills book) at (end - at) page (h .stands) (h .within) (h .to-come ∙ lines-done fills i book b) in
+    let g = write-done page₀ (linesIn from last book) at (end - at) page (h .stands) (h .within) (h .to-come ∙ lines-done last i book b) in
     let l = g .1 in
     (g .0, omega arith)
 
@@ -247,7 +351,9 @@ pub placed : (page page′ x : List ℕ) (t : Text) (r : ℕ) → t ≡ puts emp
 placed page page′ x t r et short room ep er =
     let e : held t ≡ x = ap held et ∙ held-short x short in (
       ep ∙ ap (splice page 0) e,
-      er ∙ ap (λ (l : List ℕ). cond (fitsAt page 0 l) (0 + length l) 0) e ∙ cond-true (fitsAt page 0 x) (0 + length x) 0 (fits-true page 0 x (omega arith)) ∙ (let i : 0 + length x ≡ length x = omega arith in i),
+      er ∙ ap (λ (l : List ℕ). cond (fitsAt page 0 l) (0 + length l) 0) e
+          ∙ cond-true (fitsAt page 0 x) (0 + length x) 0 (fits-true page 0 x (omega arith))
+          ∙ (let i : 0 + length x ≡ length x = omega arith in i),
     )
 
 -- the first line and then the others
@@ -292,19 +398,20 @@ pub damaged-at : (o : Outcome) (at most : ℕ) → restarted.Unlawful at ≡ tol
 damaged-at (Again q w) at most e g = never cc
 damaged-at (Unlawful p) at most e g = let f : at ≡ p = cc in omega arith
 
--- ---- the page of the waiting fills: its first line stands, and there is room for the others
-module _ (f k sum end : ℕ) (book page page₁ : List ℕ) (t : Text) where
-  pub headed : k ≤ f → f ≤ mostSlots → length (waitingPage k (slotsIn f book)) ≤ length page → sum ≡ contracts (drop k (slotsIn f book)) → sum ≤ mostSlots * largest
-      → t ≡ puts empty (firstOf (f - k) sum) → page₁ ≡ splice page 0 (held t) → end ≡ cond (fitsAt page 0 (held t)) (0 + length (held t)) 0
+-- ---- the page of what waits: its first line stands, and there is room for the others
+module _ (f k fills sum end : ℕ) (book page page₁ : List ℕ) (t : Text) where
+  pub headed : k ≤ f → f ≤ mostSlots → length (waitingPage k (slotsIn f book)) ≤ length page → fills ≡ fillsOf (drop k (slotsIn f book))
+      → sum ≡ contracts (drop k (slotsIn f book)) → sum ≤ mostSlots * largest
+      → t ≡ puts empty (firstOf fills sum) → page₁ ≡ splice page 0 (held t) → end ≡ cond (fitsAt page 0 (held t)) (0 + length (held t)) 0
       → (page₁ ≡ splice page 0 (firstLine (drop k (slotsIn f book)))) × (end ≡ length (firstLine (drop k (slotsIn f book)))) × (end + length (linesIn k f book) ≤ length page₁)
-  headed hk hf room es hs et ep en =
+  headed hk hf room ec es hs et ep en =
       let first = firstLine (drop k (slotsIn f book)) in
-      let ld : length (drop k (slotsIn f book)) ≡ f - k = length-drop k (slotsIn f book) ∙ ap (λ (n : ℕ). n - k) (slots-length f book) in
-      let ex : firstOf (f - k) sum ≡ first = ap₂ firstOf (sym ld) es in
-      let short = first-most (f - k) sum (omega arith) (omega arith) in
+      let few : fills ≤ f = omega (arith, fills-most (drop k (slotsIn f book)), length-drop k (slotsIn f book), slots-length f book) in
+      let ex : firstOf fills sum ≡ first = ap₂ firstOf ec es in
+      let short = first-most fills sum (omega arith) (omega arith) in
       let lx = ap length ex in
       let whole = length-append first (linesIn k f book) in
-      let g = placed page page₁ (firstOf (f - k) sum) t end et (omega arith) (omega arith) ep en in
-      let lp : length page₁ ≡ length page = ap length (g .0) ∙ splice-length page 0 (firstOf (f - k) sum) in
+      let g = placed page page₁ (firstOf fills sum) t end et (omega arith) (omega arith) ep en in
+      let lp : length page₁ ≡ length page = ap length (g .0) ∙ splice-length page 0 (firstOf fills sum) in
       let e : end ≡ length first = g .1 ∙ lx in
       (g .0 ∙ ap (splice page 0) ex, e, omega arith)

@@ -8,13 +8,15 @@ use lib.Dec.{ltb}
 use Rattle.octet.specs.Bytes.{bytesOf}
 use Rattle.octet.specs.Splice.{splice}
 use Rattle.text.specs.Decimal.{decimal}
-use Rattle.fill.specs.Slot.{Slot, isFill, lineOf, lineFeed}
+use Rattle.fill.specs.Slot.{Slot, isFill, lineFeed}
+use Rattle.fill.specs.Booked.{lineOf}
 use Rattle.book.specs.Memory.{slotsIn}
 use Rattle.book.specs.Place.{sumWhere}
+use Rattle.book.specs.Orders.{fillsOf}
 use Rattle.note.specs.Notes.{written}
 use Rattle.restart.specs.Restart.{Outcome, Again, Unlawful, restart, bookAfter}
 
--- the contracts of fills: the sum of their LastShares
+-- the contracts of the fills among some slots: the sum of their LastShares
 abbrev pub contracts : List Slot → ℕ
 contracts ss = sumWhere isFill ss
 
@@ -23,18 +25,18 @@ unfoldable pub linesFrom : ℕ → List Slot → List ℕ
 linesFrom n [] = []
 linesFrom n (s ∷ ss) = lineOf n s ++ linesFrom (n + 1) ss
 
--- "first line, fills waiting and their contracts"
+-- "first line, fills waiting and their contracts"; "its first line counts fills alone"
 unfoldable pub firstOf : ℕ → ℕ → List ℕ
 firstOf fills sum = bytesOf "waiting " ++ decimal fills ++ bytesOf " contracts " ++ decimal sum ++ lineFeed
 
 abbrev pub firstLine : List Slot → List ℕ
-firstLine ss = firstOf (length ss) (contracts ss)
+firstLine ss = firstOf (fillsOf ss) (contracts ss)
 
 -- "else refusal 8 prints only `damaged at P`"
 unfoldable pub damaged : ℕ → List ℕ
 damaged at = bytesOf "damaged at " ++ decimal at ++ lineFeed
 
--- the fills above the mark
+-- the fills and entries above the mark, in number order
 abbrev pub waitingPage : ℕ → List Slot → List ℕ
 waitingPage acked ss = firstLine (drop acked ss) ++ linesFrom (acked + 1) (drop acked ss)
 

@@ -1,12 +1,14 @@
-// The listing of a file of notes: the fills that wait, and their contracts.
+// The listing of a file of notes: the fills that wait with their contracts, and the entries.
 ghost use mathlib.Core.Path.{_≡_};
 ghost use mathlib.Core.Bool.{cond};
 ghost use Prim.Native.Nat.{_+_, _*_, _≤_};
 ghost use lib.ListN.{length, drop};
 ghost use Rattle.octet.specs.Splice.{splice};
 ghost use Rattle.answer.specs.Numbers.{largest};
-ghost use Rattle.fill.specs.Slot.{isFill, sharesOf, lineOf};
+ghost use Rattle.fill.specs.Slot.{isFill, sharesOf};
+ghost use Rattle.fill.specs.Booked.{lineOf};
 ghost use Rattle.book.specs.Memory.{mostSlots, slotsIn};
+ghost use Rattle.book.specs.Orders.{fillsOf};
 ghost use Rattle.text.specs.Writing.{empty, puts};
 ghost use Rattle.listing.specs.Listing.{contracts, firstOf, damaged, longestFile, linesIn, waitingIn, PrintsWaiting, Prints, Lists};
 use book::BOOK;
@@ -48,6 +50,22 @@ fn wide(n: u32) -> u64
     n as u64
 }
 
+// How many of the slots from number from + 1 to the last are fills.
+fn count_from(book: &[u8; BOOK], from: usize, last: usize) -> u64
+    requires { ⌜ last ≤ mostSlots ⌝ }
+    ensures { λ r. ⌜ r ≡ fillsOf (drop from (slotsIn last (now (book .entry)))) ⌝ }
+{
+    let mut fills: u64 = 0;
+    let mut i = from;
+    while i < last {
+        if fill::is_fill(book::slot_at(book, i)) {
+            fills += 1;
+        }
+        i += 1;
+    }
+    fills
+}
+
 // The contracts of the fills from number from + 1 to the last.
 fn sum_from(book: &[u8; BOOK], from: usize, last: usize) -> u64
     requires { ⌜ last ≤ mostSlots ⌝ }
@@ -62,7 +80,7 @@ fn sum_from(book: &[u8; BOOK], from: usize, last: usize) -> u64
     sum
 }
 
-// Writes the line of fill n over page from place `at` on, and says how long it is.
+// Writes the line of slot n over page from place `at` on, and says how long it is.
 fn put_line(page: &mut [u8], at: usize, n: u32, slot: &[u8]) -> usize
     ensures { λ r. ⌜ (now (page .exit) ≡ splice (now (page .entry)) at (lineOf n (now (slot .entry)))) × (r ≡ length (lineOf n (now (slot .entry)))) ⌝ }
 {
@@ -79,7 +97,7 @@ fn narrow(n: usize) -> u32
     n as u32
 }
 
-// Writes the lines of the fills after number from, and says where they end.
+// Writes the lines of the slots after number from, and says where they end.
 fn put_lines(page: &mut [u8], at: usize, book: &[u8; BOOK], from: usize, last: usize) -> usize
     requires { ⌜ (last ≤ mostSlots) × (at + length (linesIn from last (now book)) ≤ length (now page)) ⌝ }
     ensures { λ r. ⌜ (now (page .exit) ≡ splice (now (page .entry)) at (linesIn from last (now (book .entry)))) × (r ≡ at + length (linesIn from last (now (book .entry)))) ⌝ }
@@ -99,15 +117,16 @@ fn size(n: u32) -> usize
     n as usize
 }
 
-// Writes the listing of the fills that wait, and says how long it is.
+// Writes the listing of what waits, and says how long it is.
 fn print_waiting(m: Counts, book: &[u8; BOOK], page: &mut [u8]) -> usize
     requires { ⌜ (m .last ≤ mostSlots) × (m .acked ≤ m .last) × (length (waitingIn (m .acked) (m .last) (now book)) ≤ length (now page)) ⌝ }
     ensures { λ r. ⌜ PrintsWaiting (m .acked) (m .last) (now (book .entry)) (now (page .entry)) r (now (page .exit)) ⌝ }
 {
     let last = size(m.last);
     let acked = size(m.acked);
+    let fills = count_from(book, acked, last);
     let sum = sum_from(book, acked, last);
-    let end = first_text((last - acked) as u64, sum).place(page, 0);
+    let end = first_text(fills, sum).place(page, 0);
     put_lines(page, end, book, acked, last)
 }
 

@@ -1,5 +1,6 @@
 // What is written of a call: a line of the transcript.
 use super::code::encode;
+use book::Load;
 use libc::STDOUT_FILENO;
 use receiver::State;
 use tally::Tally;
@@ -21,6 +22,15 @@ fn say_number(t: Text, s: &[u8], n: u32) -> Text {
     say(t.put(b' '), s).put(b' ').decimal(n as u64)
 }
 
+// How many fills there are, and, where there are any, how many entries.
+fn say_load(t: Text, load: Load) -> Text {
+    let fills = say_number(t, b"fills", load.fills);
+    if load.entries == 0 {
+        return fills;
+    }
+    say_number(fills, b"entries", load.entries)
+}
+
 // The numbers of the state, and of the tally.
 fn say_state(t: Text, st: State) -> Text {
     let s = st.session;
@@ -28,7 +38,8 @@ fn say_state(t: Text, st: State) -> Text {
     let phase = s.phase;
     let a = say_number(say(t, b" ;"), b"phase", phase.number());
     let b = say_number(say_number(a, b"e", s.e), b"o", s.o);
-    let c = say_number(say_number(b, b"fills", m.fills), b"acked", m.acked);
+    let load = m.load;
+    let c = say_number(say_load(b, load), b"acked", m.acked);
     say_number(c, b"offered", m.offered)
 }
 

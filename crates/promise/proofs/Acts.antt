@@ -1,7 +1,7 @@
--- What one call does to what is kept, by its note; to the marks, and to what was shown; and that it says that it booked a fill exactly where it did.
+-- What one call does to what is kept, by its note; to the marks, and to what was shown; and that it says that it booked a fill or an entry exactly where it did.
 use Prim.Native.Nat.{ℕ, suc, _+_, _-_, _≤_, _<_}
 use mathlib.Core.Path.{_≡_, refl, sym, ap, ap₂, _∙_, subst}
-use mathlib.Core.Logic.{⊎-elim}
+use mathlib.Core.Logic.{inl, inr, ⊎-elim}
 use mathlib.Core.List.{List, [], _∷_, _++_, append-nil}
 use mathlib.Core.Option.{Option, none, some}
 use mathlib.Core.Bool.{Bool, true, false, _&&_, _||_, not}
@@ -25,9 +25,12 @@ use Rattle.frame.specs.declared.Found.{Found}
 use Rattle.frame.specs.declared.Found.the-variants as found
 use Rattle.field.specs.Pieces.{Pieces, piecesOf}
 use Rattle.field.specs.Look.{lookOf}
-use Rattle.fill.specs.Slot.{Slot, lineOf, slotLawful, fillMark}
-use Rattle.book.specs.Place.{place, isNew, hasRoom}
-use Rattle.book.specs.Orders.{ordersOf, fillsOf, ordersAfter, fillsAfter}
+use Rattle.fill.specs.Slot.{Slot, isEntry}
+use Rattle.fill.specs.Booked.{IsSlot, lineOf, slotLawful}
+use Rattle.book.specs.Place.{isNew}
+use Rattle.book.specs.Admitting.{place, hasRoom, noLoad}
+use Rattle.book.specs.Orders.{ordersAfter, fillsAfter, countWhere, loadOf}
+use Rattle.book.proofs.ByKind.{fill-no-entry}
 use Rattle.book.specs.declared.Placed.{Placed}
 use Rattle.book.specs.declared.Placed.the-variants as placed
 use Rattle.note.specs.Notes.{Raises, Acks, Clears}
@@ -36,19 +39,21 @@ use Rattle.report.specs.Report.{reportIn, reportedIn, slotIn, ruleFault}
 use Rattle.report.specs.declared.Reported.{Reported}
 use Rattle.report.specs.declared.Reported.the-variants as reported
 use Rattle.report.proofs.Kept.{fill-told}
-use Rattle.report.proofs.Lawful.{Lawful, report-lawful}
+use Rattle.report.proofs.Lawful as fills
+use Rattle.report.proofs.Correction.{entry-long, entry-marked, entry-ends, correction-booked}
+use Rattle.report.specs.Correction.{entryIn}
 use Rattle.queue.specs.Queue.{shortNote}
 use Rattle.session.specs.Session.{says, isOn, mayCall, ownCall, lineLost}
 use Rattle.session.specs.Judging.{judge, rejected, passed}
-use Rattle.session.proofs.Turns.{Onward, own-numbers, rejected-numbers, passed-numbers, judge-report, judge-settles}
+use Rattle.session.proofs.Turns.{Onward, own-numbers, rejected-numbers, passed-numbers, judge-report, judge-correction, judge-settles}
 use Rattle.session.specs.declared.Own.{Own}
 use Rattle.session.specs.declared.Session.{Session}
 use Rattle.session.specs.declared.Judged.{Judged}
 use Rattle.session.specs.declared.Verdict.{Verdict}
-use Rattle.session.specs.declared.Verdict.the-variants.{Settled, Report}
+use Rattle.session.specs.declared.Verdict.the-variants.{Settled, Report, Correction}
 use Rattle.restart.specs.Restart.{Outcome as Restarting, Again, Unlawful, restart}
 use Rattle.receiver.specs.State.{State, woken, Did, quiet, noting, sessionOf, withSession, keeping, offering, noteOfChange}
-use Rattle.receiver.specs.Calls.{spoken, owned, lost, settled, bookingNote, booked, Deed, withRoom, placedFill, ruled, deedAfter, deedOf, carriedOut, framed, foundTo, message, offerOf, offer, beginAgain, acknowledge, isEmpty, newDay, restarted}
+use Rattle.receiver.specs.Calls.{spoken, owned, lost, settled, bookingNote, bookedAs, booked, Deed, ofReport, broughtBy, bringsOf, withRoom, placedAs, becomes, deedOf, carriedOut, framed, foundTo, message, offerOf, offer, beginAgain, acknowledge, isEmpty, newDay, restarted}
 use Rattle.receiver.specs.Receiver.{What, Own-call, Line-lost, Message, Offer, Begin-again, Acknowledge, New-day, Restart, Lent, refuse, shortReply, badGiven, writing, refusalOf, unrefused, unless-refused, does}
 use Rattle.receiver.specs.declared.Answer.{Answer}
 use Rattle.receiver.specs.declared.Answer.the-variants.{Done, Refused, More, Garbled, Framed, None, Acked, Already}
@@ -84,12 +89,12 @@ pub record Acts (st : State) (w : What) (d : Did) : Type 0 where
   pub acks : isAcked (d .answer) ≡ true → isNone (d .note) ≡ false
   pub marks : (h : Shown) → Stands st h → Stands (d .next) (showing h w d (anew w (d .answer)))
 
--- ---- no fill is booked
+-- ---- no slot is added
 
 tells-none : (st : State) (d : Did) → numberTold (d .answer) ≡ none → d .next .kept .slots ≡ st .kept .slots → Tells st d
 tells-none st d u e n = ((λ h. none-some n (sym u ∙ h)), λ x. no-snoc (st .kept .slots) (x .0) (sym e ∙ x .1 .slots))
 
--- ---- the marks stay, and the fills are the same or more
+-- ---- the marks stay, and the slots are the same or more
 
 stands-more : (st : State) (w : What) (d : Did) (h : Shown) (gs : List Slot) → d .next .offered ≡ st .offered → d .next .kept .acked ≡ st .kept .acked
     → d .next .kept .slots ≡ st .kept .slots ++ gs → anew w (d .answer) ≡ false → gave (d .answer) (d .line) ≡ [] → Stands st h
@@ -127,8 +132,8 @@ acts-quiet st w a e g u k = record {
 
 -- ---- the session's calls
 
-kept-path : (q : Kept) (e o : ℕ) → e ≡ q .e → o ≡ q .o → record { e = e; o = o; slots = q .slots; fills = q .fills; orders = q .orders; acked = q .acked } ≡ q
-kept-path q e o a b = λ i. record { e = a i; o = b i; slots = q .slots; fills = q .fills; orders = q .orders; acked = q .acked }
+kept-path : (q : Kept) (e o : ℕ) → e ≡ q .e → o ≡ q .o → record { e = e; o = o; slots = q .slots; load = q .load; acked = q .acked } ≡ q
+kept-path q e o a b = λ i. record { e = a i; o = b i; slots = q .slots; load = q .load; acked = q .acked }
 
 raises-law : (q : Kept) (e o : ℕ) → q .e ≤ e → e ≤ nineDigits → q .o ≤ o → o ≤ nineDigits → eqb (q .e) e && eqb (q .o) o ≡ false → lawful q (Raises e o) ≡ true
 unfolding lawful
@@ -184,6 +189,20 @@ acts-lost st = record {
 
 -- ---- a message
 
+-- a slot as the book keeps it: of a report that keeps the rules, and of a correction
+record Lawful (s : Slot) : Type 0 where
+  lawful : slotLawful s ≡ true
+  is : IsSlot s
+
+lawful-fill : (s : Slot) → fills.Lawful s → Lawful s
+lawful-fill s h = record {
+  lawful = h .lawful;
+  is = record { wide = h .long; marked = inl (h .marked); normal = λ t. contrary t (fill-no-entry s (h .marked)) };
+}
+
+lawful-entry : (ps : Pieces) → slotLawful (entryIn ps) ≡ true → Lawful (entryIn ps)
+lawful-entry ps h = record { lawful = h; is = record { wide = entry-long ps; marked = inr (entry-marked ps); normal = λ t. entry-ends ps } }
+
 some-same : (a b : ℕ) → some a ≡ some b → a ≡ b
 some-same a b h = cc
 
@@ -200,14 +219,18 @@ module _ (setup : Setup) (st : State) (time s : List ℕ) (safe : Safe (st .kept
   acts-rejected : (len : ℕ) (ps : Pieces) (n : ℕ) (f : Fault) → st .kept .e < nineDigits → Acts st (Message time s) (settled setup st time len ps (rejected (sessionOf st) n f))
   acts-rejected len ps n f l = acts-settled len ps (rejected (sessionOf st) n f) (rejected-numbers (sessionOf st) o-most (omega arith) n f .onward) refl
 
-  books-law : (f : Slot) → st .kept .e < nineDigits → slotLawful f ≡ true → place (st .kept .slots) f ≡ placed.New → hasRoom (st .kept .slots) (st .kept .fills) (st .kept .orders) f ≡ true
+  books-law : (f : Slot) → st .kept .e < nineDigits → slotLawful f ≡ true → place (st .kept .slots) f ≡ placed.New → hasRoom (st .kept .slots) (st .kept .load) f ≡ true
       → lawful (st .kept) (bookingNote st f) ≡ true
   unfolding lawful bookable
   books-law f l law new room =
       let e : ℕ = st .kept .e + 1 in
       rw (eq-eqb e e refl, le-leb e nineDigits (omega arith), eq-eqb (st .kept .o) (st .kept .o) refl, law, ap isNew new, room)
 
-  acts-booked : (len : ℕ) (f : Slot) → st .kept .e < nineDigits → Lawful f → place (st .kept .slots) f ≡ placed.New → hasRoom (st .kept .slots) (st .kept .fills) (st .kept .orders) f ≡ true
+  -- a fill is booked under the next number, and an entry is entered under it
+  told-booked : (f : Slot) → becameOf (bookedAs st f) .booked ≡ some (length (st .kept .slots) + 1)
+  told-booked f = of-cond (λ (o : Outcome). becameOf o .booked ≡ some (length (st .kept .slots) + 1)) (isEntry f) (λ _. refl) (λ _. refl)
+
+  acts-booked : (len : ℕ) (f : Slot) → st .kept .e < nineDigits → Lawful f → place (st .kept .slots) f ≡ placed.New → hasRoom (st .kept .slots) (st .kept .load) f ≡ true
       → Acts st (Message time s) (booked st len f)
   unfolding booked after
   acts-booked len f l law new room =
@@ -216,43 +239,43 @@ module _ (setup : Setup) (st : State) (time s : List ℕ) (safe : Safe (st .kept
       record {
         notes = record {
           law = books-law f l (law .lawful) new room;
-          slotted = record { wide = law .long; marked = eqb-true (getD f 0 0) fillMark (law .marked) };
+          slotted = law .is;
           to = refl;
           says = record { lent = refl; acks = refl; clears = refl };
         };
         tells = λ n. (
-          (λ h. (f, record { slots = refl; number = sym (some-same (length (q .slots) + 1) n h) ∙ sym more })),
-          (λ x. ap some (sym more ∙ sym (x .1 .number))),
+          (λ h. (f, record { slots = refl; number = sym (some-same (length (q .slots) + 1) n (sym (told-booked f) ∙ h)) ∙ sym more })),
+          (λ x. told-booked f ∙ ap some (sym more ∙ sym (x .1 .number))),
         );
         acks = λ h. contrary h refl;
         marks = λ h m. stands-more st (Message time s) (booked st len f) h (f ∷ []) refl refl refl refl refl m;
       }
 
-  acts-placed : (len : ℕ) (ps : Pieces) (n : ℕ) (p : Placed) → st .kept .e < nineDigits → Lawful (slotIn ps) → place (st .kept .slots) (slotIn ps) ≡ p
-      → Acts st (Message time s) (carriedOut setup st time len ps (placedFill st n (slotIn ps) p))
-  unfolding carriedOut placedFill withRoom
-  acts-placed len ps n placed.New l law e =
-      of-cond (λ (d : Deed). Acts st (Message time s) (carriedOut setup st time len ps d)) (hasRoom (st .kept .slots) (st .kept .fills) (st .kept .orders) (slotIn ps))
-      (λ room. acts-booked len (slotIn ps) l law e room)
+  acts-placed : (len : ℕ) (ps : Pieces) (n : ℕ) (f : Slot) (p : Placed) → st .kept .e < nineDigits → Lawful f → place (st .kept .slots) f ≡ p
+      → Acts st (Message time s) (carriedOut setup st time len ps (placedAs st n f p))
+  unfolding carriedOut placedAs withRoom
+  acts-placed len ps n f placed.New l law e =
+      of-cond (λ (d : Deed). Acts st (Message time s) (carriedOut setup st time len ps d)) (hasRoom (st .kept .slots) (st .kept .load) f)
+      (λ room. acts-booked len f l law e room)
       (λ _. acts-quiet st (Message time s) (Refused refusal.NoRoom) refl refl refl refl)
-  acts-placed len ps n placed.Already l law e =
+  acts-placed len ps n f placed.Already l law e =
       acts-passed len ps outcome.Already l refl
-  acts-placed len ps n (placed.Clash f) l law e =
-      acts-rejected len ps n f l
+  acts-placed len ps n f (placed.Clash g) l law e =
+      acts-rejected len ps n g l
 
   acts-ruled : (len : ℕ) (ps : Pieces) (n : ℕ) (r : Reported) → reportedIn ps ≡ r → st .kept .e < nineDigits
-      → (ruleFault (reportIn ps) ≡ none → Lawful (slotIn ps)) → Acts st (Message time s) (carriedOut setup st time len ps (ruled st (lookOf ps) n r))
-  unfolding carriedOut ruled
+      → (ruleFault (reportIn ps) ≡ none → Lawful (slotIn ps)) → Acts st (Message time s) (carriedOut setup st time len ps (becomes st (ofReport (sessionOf st) (lookOf ps) n r)))
+  unfolding carriedOut becomes ofReport
   acts-ruled len ps n (reported.Faulty f) e l law =
       acts-rejected len ps n f l
   acts-ruled len ps n reported.Aside e l law =
       acts-passed len ps outcome.Aside l refl
   acts-ruled len ps n reported.Fill e l law =
-      acts-placed len ps n (place (st .kept .slots) (slotIn ps)) l (law (fill-told (lookOf ps) e .0)) refl
+      acts-placed len ps n (slotIn ps) (place (st .kept .slots) (slotIn ps)) l (law (fill-told (lookOf ps) e .0)) refl
 
   acts-judged : (len : ℕ) → foundIn s ≡ found.Framed len → (v : Verdict) → judge setup (sessionOf st) (piecesOf (bodyIn len s)) ≡ v
-      → Acts st (Message time s) (carriedOut setup st time len (piecesOf (bodyIn len s)) (deedAfter st (lookOf (piecesOf (bodyIn len s))) v))
-  unfolding carriedOut deedAfter
+      → Acts st (Message time s) (carriedOut setup st time len (piecesOf (bodyIn len s)) (becomes st (broughtBy (sessionOf st) (lookOf (piecesOf (bodyIn len s))) v)))
+  unfolding carriedOut becomes broughtBy
   acts-judged len framed-so (Settled j) e =
       let ps : Pieces = piecesOf (bodyIn len s) in
       let low = safe .sound .expected in
@@ -263,10 +286,17 @@ module _ (setup : Setup) (st : State) (time s : List ℕ) (safe : Safe (st .kept
       let t = judge-report setup (sessionOf st) ps n e in
       let small = t .most in
       let low : st .kept .e < nineDigits = let z : n ≡ st .kept .e = t .number in omega arith in
-      acts-ruled len ps n (reportedIn ps) refl low (report-lawful setup (st .phase) (st .kept .o) ps (t .fault) (t .kind))
+      acts-ruled len ps n (reportedIn ps) refl low (λ rules. lawful-fill (slotIn ps) (fills.report-lawful setup (st .phase) (st .kept .o) ps (t .fault) (t .kind) rules))
+  acts-judged len framed-so (Correction n) e =
+      let ps : Pieces = piecesOf (bodyIn len s) in
+      let t = judge-correction setup (sessionOf st) ps n e in
+      let small = t .most in
+      let low : st .kept .e < nineDigits = let z : n ≡ st .kept .e = t .number in omega arith in
+      acts-placed len ps n (entryIn ps) (place (st .kept .slots) (entryIn ps)) low
+      (lawful-entry ps (correction-booked setup (st .phase) (st .kept .o) ps (t .fault) (t .kind))) refl
 
   acts-found : (f : Found) → foundIn s ≡ f → Acts st (Message time s) (foundTo setup st time s f)
-  unfolding foundTo framed deedOf
+  unfolding foundTo framed deedOf bringsOf
   acts-found found.More e = acts-quiet st (Message time s) More refl refl refl refl
   acts-found (found.Garbled skip) e = acts-quiet st (Message time s) (Garbled skip) refl refl refl refl
   acts-found (found.Framed len) e = acts-judged len e (judge setup (sessionOf st) (piecesOf (bodyIn len s))) refl
@@ -355,7 +385,7 @@ nil-of [] h = refl
 nil-of (x ∷ l) h = absurd (suc-ne-zero (length l) h)
 
 empty-path : (q : Kept) → Safe q → isEmpty q ≡ true → empty ≡ q
-unfolding fillsAfter ordersAfter
+unfolding fillsAfter ordersAfter countWhere
 empty-path q safe h =
     let a = and-both (eqb (q .e) 1 && eqb (q .o) 1 && eqb (length (q .slots)) 0) (eqb (q .acked) 0) h in
     let b = and-both (eqb (q .e) 1 && eqb (q .o) 1) (eqb (length (q .slots)) 0) (a .0) in
@@ -364,10 +394,9 @@ empty-path q safe h =
     let o : q .o ≡ 1 = eqb-true (q .o) 1 (c .1) in
     let l : length (q .slots) ≡ 0 = eqb-true (length (q .slots)) 0 (b .1) in
     let s : q .slots ≡ [] = nil-of (q .slots) l in
-    let f : q .fills ≡ 0 = safe .sound .fills-all ∙ ap fillsOf s in
-    let n : q .orders ≡ 0 = safe .sound .orders-all ∙ ap (λ (x : List Slot). length (ordersOf x)) s in
+    let nothing : q .load ≡ noLoad = safe .sound .load-all ∙ ap loadOf s in
     let k : q .acked ≡ 0 = eqb-true (q .acked) 0 (a .1) in
-    λ i. record { e = sym e i; o = sym o i; slots = sym s i; fills = sym f i; orders = sym n i; acked = sym k i }
+    λ i. record { e = sym e i; o = sym o i; slots = sym s i; load = sym nothing i; acked = sym k i }
 
 tells-day : (st : State) (d : Did) → numberTold (d .answer) ≡ none → d .next .kept .slots ≡ [] → Tells st d
 tells-day st d u e n = ((λ h. none-some n (sym u ∙ h)), λ x. no-empty (st .kept .slots) (x .0) (sym e ∙ x .1 .slots))

@@ -15,7 +15,9 @@ use Rattle.table.specs.Steps as steps
 use Rattle.answer.specs.Setup as setup
 use Rattle.wire.specs.Messages as messages
 use Rattle.fill.specs.Slot as slot
+use Rattle.fill.specs.Booked as slots
 use Rattle.book.specs.Place as place
+use Rattle.book.specs.Admitting as admitting
 use Rattle.note.specs.Kept as kept
 use Rattle.note.specs.Kinds as kinds
 use Rattle.note.specs.Notes as notes
@@ -72,8 +74,12 @@ unfoldable pub sessions : Unit {0}
 unfolding steps1to3 judging.rejectedIf judging.filledTo judging.moved judging.loggedOut judging.effect judging.inTurn judging.due judging.gap judging.step4
 sessions = tt
 
+unfoldable pub placing : Unit {0}
+unfolding place.sameExec place.sameOrder place.byOrder place.byExec place.placeFill place.knownOrder place.ordersWith place.fillRoom
+placing = tt
+
 unfoldable pub books : Unit {0}
-unfolding slot.bodyOf slot.slotLawful slot.lineOf place.sameExec place.sameOrder place.byOrder place.byExec place.place place.knownOrder place.ordersWith place.hasRoom
+unfolding placing slot.bodyOf slot.fillLawful slot.fillLine slots.slotLawful slots.lineOf admitting.place admitting.hasRoom admitting.loadWith
 books = tt
 
 unfoldable pub keeping : Unit {0}
@@ -84,8 +90,12 @@ unfoldable pub noting : Unit {0}
 unfolding kinds.noteKind notes.noteBytes notes.slotAs notes.bookedBytes notes.readAs notes.readNote
 noting = tt
 
+unfoldable pub bringing : Unit {0}
+unfolding calls.ofReport calls.broughtBy calls.bringsOf calls.withRoom calls.placedAs calls.becomes calls.deedOf
+bringing = tt
+
 unfoldable pub taking : Unit {0}
-unfolding calls.spoken calls.settled calls.booked calls.withRoom calls.placedFill calls.ruled calls.deedAfter calls.deedOf calls.carriedOut calls.framed calls.foundTo calls.message
+unfolding bringing calls.spoken calls.settled calls.booked calls.carriedOut calls.framed calls.foundTo calls.message
 taking = tt
 
 unfoldable pub calling : Unit {0}

@@ -1,21 +1,25 @@
--- Laws of executions, sums and lines: sums over rows, no execution twice, the lines of fills.
+-- Laws of executions, entries and lines: no execution and no key twice, the lines of slots.
 use Prim.Native.Nat.{ℕ, zero, suc, _+_, _<_}
 use mathlib.Core.Path.{_≡_, refl, sym, ap, _∙_}
 use mathlib.Core.Logic.{⊎-elim}
 use mathlib.Core.List.{List, [], _∷_, _++_}
 use mathlib.Core.Option.{Option, none, some}
-use mathlib.Core.Bool.{Bool, true, false, cond, _||_}
-use native.Mathlib.Nat.{add-assoc, zero-add, add-zero, suc-ne-zero, not-suc-le-zero}
+use mathlib.Core.Bool.{Bool, true, false, _||_}
+use native.Mathlib.Nat.{add-zero, suc-ne-zero, not-suc-le-zero}
 use native.Mathlib.Omega.{arith}
 use lib.ListN.{length, drop, getD, length-append}
-use borrow.Author.Tests.{eq-eqb}
 use Rattle.octet.specs.Bytes.{same}
 use Rattle.octet.specs.Maybe.{find, orElse}
 use Rattle.octet.proofs.Cases.{bool-case, contrary, and-fails, and-no-right, find-append, find-here, find-later}
 use Rattle.octet.proofs.Lists.{same-sym}
-use Rattle.fill.specs.Slot.{Slot, isFill, execOf, sharesOf, lineOf, fillMark}
-use Rattle.book.specs.Place.{sameExec, sameContents, sumWhere, byExec, place, isNew}
-use Rattle.note.proofs.Reading.{IsSlot}
+use Rattle.fill.specs.Slot.{Slot, isFill, isEntry, execOf}
+use Rattle.fill.specs.Entry.{keyOf}
+use Rattle.fill.specs.Booked.{IsSlot, lineOf}
+use Rattle.book.specs.Place.{sameExec}
+use Rattle.book.specs.Entries.{sameKey}
+use Rattle.book.specs.Admitting.{twins}
+use Rattle.book.proofs.ByKind.{entry-no-fill, twins-fill, twins-entry}
+use Rattle.book.proofs.Apart.{exec-apart, key-apart}
 use Rattle.note.proofs.Keeping.{AllSlots}
 use Rattle.promise.specs.World.{without, distinct, Distinct, linesOf}
 
@@ -32,16 +36,7 @@ no-snoc l f h = let z : length l ≡ length l + 1 = ap length h ∙ length-appen
 pub no-empty : {A : Type 0} (l : List Slot) (f : Slot) → [] ≡ l ++ (f ∷ []) → A
 no-empty l f h = let z : 0 ≡ length l + 1 = ap length h ∙ length-append l (f ∷ []) in absurd (not-suc-le-zero {n = 0} (omega arith))
 
--- ---- sums
-
-pub sum-append : (row : Slot → Bool) (ss ts : List Slot) → sumWhere row (ss ++ ts) ≡ sumWhere row ss + sumWhere row ts
-unfolding sumWhere
-sum-append row [] ts = sym (zero-add (sumWhere row ts))
-sum-append row (s ∷ ss) ts =
-    ap (λ (n : ℕ). cond (row s) (sharesOf s) 0 + n) (sum-append row ss ts)
-    ∙ sym (add-assoc (cond (row s) (sharesOf s) 0) (sumWhere row ss) (sumWhere row ts))
-
--- ---- no execution twice
+-- ---- no execution twice, and no key
 
 find-none : (p : Slot → Bool) (x : Slot) (xs : List Slot) → find p (x ∷ xs) ≡ none → (p x ≡ false) × (find p xs ≡ none)
 find-none p x xs h =
@@ -50,51 +45,65 @@ find-none p x xs h =
     (λ f. (f, sym (find-later p x xs f) ∙ h))
     (bool-case (p x))
 
-without-none : (f : Slot) (ss : List Slot) → find (sameExec f) ss ≡ none → without f ss ≡ ss
+without-none : (f : Slot) (ss : List Slot) → find (twins f) ss ≡ none → without f ss ≡ ss
 without-none f [] h = refl
 without-none f (s ∷ ss) h =
-    let p = find-none (sameExec f) s ss h in
+    let p = find-none (twins f) s ss h in
     rw (p .0, without-none f ss (p .1))
 
--- where no ExecID stands twice the distinct executions are all
+-- where no ExecID and no key stands twice the distinct ones are all
 pub distinct-all : (fs : List Slot) → Distinct fs → distinct fs ≡ fs
 distinct-all [] d = refl
 distinct-all (f ∷ fs) d = ap (λ (l : List Slot). f ∷ without f l) (distinct-all fs (d .1)) ∙ ap (λ (l : List Slot). f ∷ l) (without-none f fs (d .0))
 
-other-way : (f g : Slot) → IsSlot g → sameExec f g ≡ false → sameExec g f ≡ false
+-- two fills, and two entries
+other-exec : (f g : Slot) → isFill g ≡ true → sameExec f g ≡ false → sameExec g f ≡ false
 unfolding sameExec
-other-way f g is h =
+other-exec f g is h =
     ⊎-elim
-    (λ n. contrary (eq-eqb (getD g 0 0) fillMark (is .marked)) n)
+    (λ n. contrary is n)
     (λ n. and-no-right (isFill f) (same (execOf g) (execOf f)) (same-sym (execOf g) (execOf f) ∙ n))
     (and-fails (isFill g) (same (execOf f) (execOf g)) h)
 
-pub distinct-snoc : (fs : List Slot) (f : Slot) → AllSlots fs → Distinct fs → find (sameExec f) fs ≡ none → Distinct (fs ++ (f ∷ []))
+other-key : (f g : Slot) → isEntry g ≡ true → sameKey f g ≡ false → sameKey g f ≡ false
+unfolding sameKey
+other-key f g is h =
+    ⊎-elim
+    (λ n. contrary is n)
+    (λ n. and-no-right (isEntry f) (same (keyOf g) (keyOf f)) (same-sym (keyOf g) (keyOf f) ∙ n))
+    (and-fails (isEntry g) (same (keyOf f) (keyOf g)) h)
+
+fill-of : (g : Slot) → IsSlot g → isEntry g ≡ false → isFill g ≡ true
+fill-of g is h = ⊎-elim (λ t. t) (λ t. contrary t h) (is .marked)
+
+other-way : (f g : Slot) → IsSlot g → twins f g ≡ false → twins g f ≡ false
+other-way f g is h =
+    ⊎-elim
+    (λ ge. twins-entry g ge f
+    ∙ ⊎-elim
+    (λ fe. other-key f g ge (sym (twins-entry f fe g) ∙ h))
+    (λ ff. key-apart f ff g)
+    (bool-case (isEntry f)))
+    (λ gf. twins-fill g gf f
+    ∙ ⊎-elim
+    (λ fe. exec-apart f (entry-no-fill f fe) g)
+    (λ ff. other-exec f g (fill-of g is gf) (sym (twins-fill f ff g) ∙ h))
+    (bool-case (isEntry f)))
+    (bool-case (isEntry g))
+
+pub distinct-snoc : (fs : List Slot) (f : Slot) → AllSlots fs → Distinct fs → find (twins f) fs ≡ none → Distinct (fs ++ (f ∷ []))
 distinct-snoc [] f a d h = (refl, tt)
 distinct-snoc (g ∷ fs) f a d h =
-    let p = find-none (sameExec f) g fs h in
-    let q : find (sameExec g) (fs ++ (f ∷ [])) ≡ none
-    = find-append (sameExec g) fs (f ∷ []) ∙ ap (λ (o : Option Slot). orElse o (find (sameExec g) (f ∷ []))) (d .0)
-    ∙ find-later (sameExec g) f [] (other-way f g (a .0) (p .0)) in
+    let p = find-none (twins f) g fs h in
+    let q : find (twins g) (fs ++ (f ∷ [])) ≡ none
+    = find-append (twins g) fs (f ∷ []) ∙ ap (λ (o : Option Slot). orElse o (find (twins g) (f ∷ []))) (d .0)
+    ∙ find-later (twins g) f [] (other-way f g (a .0) (p .0)) in
     (q, distinct-snoc fs f (a .1) (d .1) (p .1))
 
 pub distinct-drop : (n : ℕ) (fs : List Slot) → Distinct fs → Distinct (drop n fs)
 distinct-drop zero fs d = d
 distinct-drop (suc n) [] d = tt
 distinct-drop (suc n) (f ∷ fs) d = distinct-drop n fs (d .1)
-
--- what is placed as new has an ExecID that is not known
-pub new-unknown : (ss : List Slot) (f : Slot) → isNew (place ss f) ≡ true → find (sameExec f) ss ≡ none
-unfolding place byExec
-new-unknown ss f h = go (find (sameExec f) ss) refl
-  where
-    known : (k : Slot) (b : Bool) → sameContents f k ≡ b → isNew (byExec ss f (some k)) ≡ false
-    known k true e = rw e
-    known k false e = rw e
-
-    go : (o : Option Slot) → find (sameExec f) ss ≡ o → find (sameExec f) ss ≡ none
-    go none e = e
-    go (some k) e = contrary (sym (ap (λ (o : Option Slot). isNew (byExec ss f o)) e) ∙ h) (known k (sameContents f k) refl)
 
 -- ---- lines
 

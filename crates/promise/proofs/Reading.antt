@@ -253,7 +253,7 @@ tagIn (row.May tag form place) = tag
 
 abbrev smallRows : List Row → Bool
 smallRows [] = true
-smallRows (r ∷ rows) = ltb (tagIn r) 1000 && smallRows rows
+smallRows (r ∷ rows) = ltb (tagIn r) 10000 && smallRows rows
 
 -- by its type: the fault of step 6, and the tags of its table
 kind-small : (setup : Setup) (phase : Phase) (k : Kind) → SmallIf (kindFault phase k) × (smallRows (tableOf setup k) ≡ true)
@@ -264,21 +264,22 @@ kind-small setup phase kind.Resend = (tt, refl)
 kind-small setup phase kind.Reset = (tt, refl)
 kind-small setup phase kind.Logout = (tt, refl)
 kind-small setup phase kind.Report = (tt, refl)
+kind-small setup phase kind.Correction = (tt, refl)
 kind-small setup phase kind.Other = (tt, refl)
 kind-small setup phase kind.Unlisted = ((omega arith, omega arith), refl)
 
-check-small : (tag : ℕ) (c : Check) → tag < 1000 → SmallIf (checkFault tag c)
+check-small : (tag : ℕ) (c : Check) → tag < 10000 → SmallIf (checkFault tag c)
 check-small tag check.Good h = tt
 check-small tag (check.BadForm at) h = (omega arith, omega arith)
 check-small tag check.OutOfRange h = (omega arith, omega arith)
 
-tag-small : (given : Given) (look : Look) (tag : ℕ) (needed : Bool) (form : Form) → tag < 1000 → SmallIf (tagFault given look tag needed form)
+tag-small : (given : Given) (look : Look) (tag : ℕ) (needed : Bool) (form : Form) → tag < 10000 → SmallIf (tagFault given look tag needed form)
 unfolding tagFault
 tag-small given look tag needed form h =
     of-cond SmallIf (eqb (look .count tag) 0) (λ _. of-cond SmallIf needed (λ _. (omega arith, omega arith)) (λ _. tt))
     (λ _. of-cond SmallIf (eqb (look .count tag) 1) (λ _. check-small tag (valueCheck given look form (look .text tag)) h) (λ _. (omega arith, omega arith)))
 
-row-small : (given : Given) (look : Look) (r : Row) → tagIn r < 1000 → SmallIf (rowFault given look r)
+row-small : (given : Given) (look : Look) (r : Row) → tagIn r < 10000 → SmallIf (rowFault given look r)
 row-small given look (row.Needs tag form place) h =
     of-cond SmallIf (applies given place) (λ _. tag-small given look tag true form h) (λ _. tt)
 row-small given look (row.May tag form place) h =
@@ -288,8 +289,8 @@ walk-small : (given : Given) (look : Look) (rows : List Row) → smallRows rows 
 unfolding walk
 walk-small given look [] h = tt
 walk-small given look (r ∷ rows) h =
-    let p = and-both (ltb (tagIn r) 1000) (smallRows rows) h in
-    or-small (rowFault given look r) (walk given look rows) (row-small given look r (ltb-true (tagIn r) 1000 (p .0))) (walk-small given look rows (p .1))
+    let p = and-both (ltb (tagIn r) 10000) (smallRows rows) h in
+    or-small (rowFault given look r) (walk given look rows) (row-small given look r (ltb-true (tagIn r) 10000 (p .0))) (walk-small given look rows (p .1))
 
 pub fault-small : (setup : Setup) (phase : Phase) (o : ℕ) (ps : Pieces) → SmallIf (faultIn setup phase o ps)
 unfolding faultIn firstFault

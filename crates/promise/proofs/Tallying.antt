@@ -68,6 +68,7 @@ module _ (t : Tally) (f : FourBytes t) where
   framed len outcome.Aside = idle
   framed len outcome.Already = knows
   framed len (outcome.Booked n stepped) = books
+  framed len (outcome.Entered n) = books
 
   after : (a : Answer) → Raised (isBooked a) (isAlready a) (isRejected a) (isGarbled a) t (tallyAfter a t)
   after Done = idle

@@ -5,10 +5,9 @@ use mathlib.Core.List.{List, [], _∷_, _++_, append-nil}
 use mathlib.Core.Option.{Option, none, some}
 use mathlib.Core.Bool.{Bool, false, _||_}
 use native.Mathlib.Omega.{arith}
-use lib.ListN.{length, take, getD}
+use lib.ListN.{length, take}
 use lib.Dec.{leb}
-use borrow.Author.Tests.{eqb-true}
-use Rattle.octet.specs.Bytes.{bytesOf}
+use Rattle.octet.specs.Bytes.{bytesOf, same}
 use Rattle.octet.specs.Maybe.{first, find}
 use Rattle.octet.proofs.Cases.{of-cond, contrary}
 use Rattle.frame.specs.Finding.{foundIn, bodyIn}
@@ -19,6 +18,7 @@ use Rattle.field.specs.Look.{lookOf}
 use Rattle.field.specs.Written.{valuesWith}
 use Rattle.answer.specs.declared.Setup.{Setup}
 use Rattle.answer.specs.declared.Fault.{Fault}
+use Rattle.answer.specs.declared.Outcome.{Outcome}
 use Rattle.answer.specs.declared.Outcome.the-variants as outcome
 use Rattle.answer.specs.declared.Refusal.{Refusal}
 use Rattle.answer.specs.declared.Refusal.the-variants as refusal
@@ -30,14 +30,17 @@ use Rattle.wire.specs.declared.Reply.{Reply}
 use Rattle.wire.specs.declared.Reply.the-variants.{Nothing, One, Two}
 use Rattle.wire.proofs.Bounds.{message-short}
 use Rattle.wire.proofs.ReadBack as wire
-use Rattle.fill.specs.Slot.{Slot, fillMark}
-use Rattle.book.specs.Place.{sameExec, sameOrder, sameSymbol, sameSide, sameContents, byOrder, byExec, place, hasRoom}
+use Rattle.fill.specs.Slot.{Slot, isEntry}
+use Rattle.book.specs.Place.{sameExec, sameOrder, sameSymbol, sameSide, sameContents, byOrder, byExec, placeFill}
+use Rattle.book.specs.Entries.{sameKey, byKey, placeEntry}
+use Rattle.book.specs.Admitting.{place, hasRoom}
 use Rattle.book.specs.declared.Placed.{Placed}
 use Rattle.book.specs.declared.Placed.the-variants as placed
 use Rattle.note.specs.Notes.{Note, Raises, Books, Acks, Clears, Whole}
 use Rattle.note.proofs.Reading.{Fits, note-length, reads-back, reads-part}
 use Rattle.note.proofs.Keeping.{Sound}
 use Rattle.report.specs.Report.{Report, rule14, rule151, rule150, rule39, unlessKept, ruleFault, isAside, afterRules, reportedOf, reportIn, reportedIn, slotIn}
+use Rattle.report.specs.Correction.{entryIn}
 use Rattle.report.specs.declared.Reported.{Reported}
 use Rattle.report.specs.declared.Reported.the-variants as reported
 use Rattle.queue.specs.Queue.{nextOffer}
@@ -50,13 +53,13 @@ use Rattle.session.specs.declared.Judged.{Judged}
 use Rattle.session.specs.declared.Verdict.{Verdict}
 use Rattle.session.specs.declared.Verdict.the-variants as verdict
 use Rattle.session.specs.declared.Verdict.the-variants.{Settled}
-use Rattle.session.proofs.Turns.{judge-report}
+use Rattle.session.proofs.Turns.{judge-report, judge-correction}
 use Rattle.receiver.specs.State.{State, Did, quiet, sessionOf}
-use Rattle.receiver.specs.Calls.{spoken, owned, lost, settled, booked, Deed, Say as Saying, withRoom, placedFill, ruled, deedAfter, deedOf, carriedOut, framed, foundTo, message, offerOf, offer, beginAgain, acknowledge, isEmpty, newDay, restarted}
+use Rattle.receiver.specs.Calls.{spoken, owned, lost, settled, bookedAs, booked, Deed, Say as Saying, This, ofReport, broughtBy, bringsOf, withRoom, placedAs, becomes, deedOf, carriedOut, framed, foundTo, message, offerOf, offer, beginAgain, acknowledge, isEmpty, newDay, restarted}
 use Rattle.receiver.specs.Receiver.{What, Own-call, Line-lost, Message, Offer, Begin-again, Acknowledge, New-day, Restart, Lent, writing, refusalOf, unrefused, unless-refused, does}
 use Rattle.receiver.specs.declared.Answer.{Answer}
 use Rattle.receiver.specs.declared.Answer.the-variants as answer
-use Rattle.promise.specs.Sort.{sortOf, Became, isRejected}
+use Rattle.promise.specs.Sort.{sortOf, Became, becameOf, isRejected}
 use Rattle.promise.specs.World.{world}
 use Rattle.promise.specs.WrittenRead.{MessagesReadBack, Writable, NotesReadBack, Leads, Messages, fieldsIn, stampOf, wordIn, wordOf, hasReject, Replies, CallsReadBack}
 use Rattle.promise.proofs.Executions.{or-false}
@@ -70,7 +73,7 @@ messages-read-back setup o time word say given = wire.reads-back setup o time wo
 
 fits : (n : Note) → Writable n → Fits n
 fits (Raises e o) h = h
-fits (Books e o s) h = (h .0, h .1, record { wide = h .2; marked = eqb-true (getD s 0 0) fillMark (h .3) })
+fits (Books e o s) h = h
 fits (Acks n) h = h
 fits Clears h = h
 
@@ -170,9 +173,14 @@ unfolding byExec
 exec-small ss f none = order-small f (find (sameOrder f) ss)
 exec-small ss f (some k) = of-cond SmallPlaced (sameContents f k) (λ _. tt) (λ _. (omega arith, omega arith))
 
-place-small : (ss : List Slot) (f : Slot) → SmallPlaced (place ss f)
-unfolding place
-place-small ss f = exec-small ss f (find (sameExec f) ss)
+key-small : (e : Slot) (o : Option Slot) → SmallPlaced (byKey e o)
+unfolding byKey
+key-small e none = tt
+key-small e (some k) = of-cond SmallPlaced (same e k) (λ _. tt) (λ _. (omega arith, omega arith))
+
+place-small : (ss : List Slot) (s : Slot) → SmallPlaced (place ss s)
+unfolding place placeEntry placeFill
+place-small ss s = of-cond SmallPlaced (isEntry s) (λ _. key-small s (find (sameKey s) ss)) (λ _. exec-small ss s (find (sameExec s) ss))
 
 kept-small : (tag : ℕ) (kept : Bool) → tag < 1000 → SmallIf (unlessKept tag kept)
 kept-small tag kept h = of-cond SmallIf kept (λ _. tt) (λ _. (omega arith, omega arith))
@@ -228,38 +236,48 @@ module _ (setup : Setup) (st : State) (time s : List ℕ) (ids : Agreed setup) (
     unfolding carriedOut
     said-replied j x = settled-replied j x
 
+    unrejected : (f : Slot) → becameOf (bookedAs st f) .rejected ≡ false
+    unrejected f = of-cond (λ (o : Outcome). becameOf o .rejected ≡ false) (isEntry f) (λ _. refl) (λ _. refl)
+
     booked-replied : (f : Slot) → Does (withRoom st f)
     unfolding withRoom carriedOut booked
     booked-replied f =
-        of-cond Does (hasRoom (st .kept .slots) (st .kept .fills) (st .kept .orders) f)
-        (λ _. replies-nothing setup (st .kept .o) time (wordIn s (found.Framed len)) (booked st len f) refl refl)
+        of-cond Does (hasRoom (st .kept .slots) (st .kept .load) f)
+        (λ _. replies-nothing setup (st .kept .o) time (wordIn s (found.Framed len)) (booked st len f) refl (unrejected f))
         (λ _. quiet-replied (found.Framed len) (answer.Refused refusal.NoRoom) refl)
 
     clear : Clear (take 3 (textAt 35 ps))
     clear = type-clear s len framed-so
 
     module _ (n : ℕ) (n-small : n < 2 ^ 32) where
-      placed-replied : (p : Placed) → SmallPlaced p → Does (placedFill st n (slotIn ps) p)
-      unfolding placedFill
-      placed-replied placed.New h = booked-replied (slotIn ps)
-      placed-replied placed.Already h = said-replied (passed outcome.Already (sessionOf st)) (passed-speaks ps clear (sessionOf st) outcome.Already refl)
-      placed-replied (placed.Clash f) h = said-replied (rejected (sessionOf st) n f) (rejected-speaks ps clear (sessionOf st) n f n-small h)
+      placed-replied : (f : Slot) (p : Placed) → SmallPlaced p → Does (placedAs st n f p)
+      unfolding placedAs
+      placed-replied f placed.New h = booked-replied f
+      placed-replied f placed.Already h = said-replied (passed outcome.Already (sessionOf st)) (passed-speaks ps clear (sessionOf st) outcome.Already refl)
+      placed-replied f (placed.Clash g) h = said-replied (rejected (sessionOf st) n g) (rejected-speaks ps clear (sessionOf st) n g n-small h)
 
-      ruled-replied : (r : Reported) → SmallReported r → Does (ruled st (lookOf ps) n r)
-      unfolding ruled
+      brought-replied : (f : Slot) → Does (becomes st (This n f))
+      unfolding becomes
+      brought-replied f = placed-replied f (place (st .kept .slots) f) (place-small (st .kept .slots) f)
+
+      ruled-replied : (r : Reported) → SmallReported r → Does (becomes st (ofReport (sessionOf st) (lookOf ps) n r))
+      unfolding becomes ofReport
       ruled-replied (reported.Faulty f) h = said-replied (rejected (sessionOf st) n f) (rejected-speaks ps clear (sessionOf st) n f n-small h)
       ruled-replied reported.Aside h = said-replied (passed outcome.Aside (sessionOf st)) (passed-speaks ps clear (sessionOf st) outcome.Aside refl)
-      ruled-replied reported.Fill h = placed-replied (place (st .kept .slots) (slotIn ps)) (place-small (st .kept .slots) (slotIn ps))
+      ruled-replied reported.Fill h = brought-replied (slotIn ps)
 
-    judged-replied : (v : Verdict) → judge setup (sessionOf st) ps ≡ v → Does (deedAfter st (lookOf ps) v)
-    unfolding deedAfter
+    judged-replied : (v : Verdict) → judge setup (sessionOf st) ps ≡ v → Does (becomes st (broughtBy (sessionOf st) (lookOf ps) v))
+    unfolding becomes broughtBy
     judged-replied (Settled j) e = said-replied j (settled-speaks setup (sessionOf st) s len framed-so e-small o-small j e)
     judged-replied (verdict.Report n) e =
         let x = judge-report setup (sessionOf st) ps n e .most in
         ruled-replied n (omega arith) (reportedIn ps) (reported-small ps)
+    judged-replied (verdict.Correction n) e =
+        let x = judge-correction setup (sessionOf st) ps n e .most in
+        brought-replied n (omega arith) (entryIn ps)
 
   found-replied : (f : Found) → foundIn s ≡ f → Replied f (foundTo setup st time s f)
-  unfolding foundTo framed deedOf
+  unfolding foundTo framed deedOf bringsOf
   found-replied found.More e = quiet-replied found.More answer.More refl
   found-replied (found.Garbled skip) e = quiet-replied (found.Garbled skip) (answer.Garbled skip) refl
   found-replied (found.Framed len) e = judged-replied len e (judge setup (sessionOf st) (piecesOf (bodyIn len s))) refl

@@ -24,6 +24,7 @@ use Rattle.receiver.specs.State.{State, Did}
 use Rattle.receiver.specs.Receiver.{Message, does}
 use Rattle.receiver.specs.declared.Answer.the-variants as answer
 use Rattle.report.specs.Report.{reportIn, ruleFault}
+use Rattle.book.specs.Admitting.{noLoad}
 
 -- a case: what is read or judged, and what it gives
 pub data Case : Type 0 where
@@ -39,7 +40,7 @@ abbrev pub agreed : Setup
 agreed = record { ours = idWith (bytesOf "FIRM"); theirs = idWith (bytesOf "SPHR") }
 
 abbrev pub within : ℕ → ℕ → State
-within e o = record { phase = In; asked = 0; offered = 0; kept = record { e = e; o = o; slots = []; fills = 0; orders = 0; acked = 0 } }
+within e o = record { phase = In; asked = 0; offered = 0; kept = record { e = e; o = o; slots = []; load = noLoad; acked = 0 } }
 
 abbrev pub worked : ℕ → ℕ → List ℕ → Did
 worked e o text =

@@ -19,23 +19,19 @@ use Rattle.answer.specs.declared.Setup.{Setup}
 use Rattle.answer.specs.declared.Refusal.{Refusal}
 use Rattle.answer.specs.declared.Refusal.the-variants as refusal
 use Rattle.fill.specs.Slot.{Slot}
-use Rattle.book.specs.Place.{place, isNew, hasRoom}
+use Rattle.book.specs.Place.{isNew}
+use Rattle.book.specs.Admitting.{place, hasRoom}
 use Rattle.note.specs.Kept.{waiting}
-use Rattle.report.specs.Report.{reportedIn, slotIn}
-use Rattle.report.specs.declared.Reported.{Reported}
-use Rattle.report.specs.declared.Reported.the-variants as reported
 use Rattle.restart.specs.Restart.{Unlawful, restart, told, refusedBy}
-use Rattle.session.specs.Judging.{judge}
-use Rattle.session.specs.declared.Verdict.{Verdict}
-use Rattle.session.specs.declared.Verdict.the-variants as verdict
 use Rattle.tally.specs.declared.Tally.{Tally}
-use Rattle.receiver.specs.State.{State, Did, sessionOf, seen, stored, replyAfter, noteAfter, lineAfter, bookAfter}
+use Rattle.receiver.specs.State.{State, Did, seen, stored, replyAfter, noteAfter, lineAfter, bookAfter}
+use Rattle.receiver.specs.Calls.{Brings, Nothing, This, bringsOf}
 use Rattle.receiver.specs.Receiver.{What, Message, Restart, Lent, refuse, call, settingUp}
 use Rattle.receiver.specs.Steps.{leaveOf}
 use Rattle.receiver.specs.declared.State.{State as Stored}
 use Rattle.promise.specs.Sort.{whereGiven, Buffers, sortOf, refusedWith}
 use Rattle.promise.specs.World.{isRefused}
-use Rattle.promise.specs.Demand2.{Bookable}
+use Rattle.promise.specs.Demand2.{Bringing}
 
 -- ---- the column "When", of each call; a row that is none of the call's does not hold
 
@@ -61,22 +57,16 @@ wrongPhase st w = not (among (sortOf w .phases) (phaseNumber (st .phase)))
 abbrev pub numbersUsed : State → What → Bool
 numbersUsed st w = sortOf w .lent .reply && ltb 999999997 (st .kept .o)
 
--- "5: no room": a framed report in its turn that would be booked, but for room
-abbrev pub isReport : Verdict → Bool
-isReport (verdict.Settled j) = false
-isReport (verdict.Report n) = true
-
-abbrev pub isFilled : Reported → Bool
-isFilled (reported.Faulty f) = false
-isFilled reported.Aside = false
-isFilled reported.Fill = true
-
--- a new fill, and no room for it
+-- "5: no room": a framed message in its turn that brings a fill or an entry, which would be booked but for room
 abbrev pub unplaced : State → Slot → Bool
-unplaced st f = isNew (place (st .kept .slots) f) && not (hasRoom (st .kept .slots) (st .kept .fills) (st .kept .orders) f)
+unplaced st s = isNew (place (st .kept .slots) s) && not (hasRoom (st .kept .slots) (st .kept .load) s)
+
+abbrev pub crowdedBy : State → Brings → Bool
+crowdedBy st (Nothing j) = false
+crowdedBy st (This n s) = unplaced st s
 
 abbrev pub crowded : Setup → State → Pieces → Bool
-crowded setup st ps = isReport (judge setup (sessionOf st) ps) && isFilled (reportedIn ps) && unplaced st (slotIn ps)
+crowded setup st ps = crowdedBy st (bringsOf setup st ps)
 
 abbrev pub crowdedIn : Setup → State → List ℕ → Found → Bool
 crowdedIn setup st s found.More = false
@@ -90,7 +80,7 @@ noRoom setup st w = whereGiven false (λ (s : List ℕ). crowdedIn setup st s (f
 abbrev pub notOffered : State → What → Bool
 notOffered st w = whereGiven false (ltb (st .offered)) (sortOf w .acks)
 
--- "7: new day with fills waiting"
+-- "7: new day with fills waiting", or entries
 abbrev pub stillWaiting : State → What → Bool
 stillWaiting st w = sortOf w .clears && ltb 0 (length (waiting (st .kept)))
 
@@ -146,10 +136,9 @@ pub record Demand1 (setup : Setup) (st : State) (b : Lent) (t : Tally) (w : What
   -- the struct and every lent byte too
   pub unchanged : (s : Stored) (book reply note line : List ℕ) → st ≡ seen s book → isRefused (call setup st b t w .did .answer) ≡ true
       → Unchanged s book reply note line (call setup st b t w .did)
-  -- "no room" is given exactly for a framed report in its turn that would be booked but for room, where no row above it holds
+  -- "no room" is given exactly for a framed report or correction in its turn that would be booked but for room, where no row above it holds
   pub room : (time s : List ℕ) → w ≡ Message time s → (refusedWith (call setup st b t w .did .answer) ≡ some refusal.NoRoom)
-      ↔ ((firstThere (above5 st b w) ≡ none)
-      × ((len : ℕ) × Bookable setup st s len × (hasRoom (st .kept .slots) (st .kept .fills) (st .kept .orders) (slotIn (piecesOf (bodyIn len s))) ≡ false)))
+      ↔ ((firstThere (above5 st b w) ≡ none) × ((len : ℕ) × (f : Slot) × Bringing setup st s len f × (hasRoom (st .kept .slots) (st .kept .load) f ≡ false)))
   -- "unlawful note" exactly where `restart` finds one, with the place that it finds
   pub note : (notes : List ℕ) (at : ℕ) → w ≡ Restart notes → (refusedWith (call setup st b t w .did .answer) ≡ some (refusal.Unlawful at)) ↔ (restart notes ≡ Unlawful at)
 

@@ -1,4 +1,4 @@
--- THE SECOND DEMAND: a good report is booked. Which report that is, in the paper's words, and what exactly is then done.
+-- THE SECOND DEMAND: a good report is booked, and a good correction entered. Which message that is, in the paper's words, and what exactly is then done.
 use Prim.Native.Nat.{ℕ, _+_, _≤_}
 use mathlib.Core.Path.{_≡_}
 use mathlib.Core.List.{List, [], _∷_, _++_}
@@ -14,14 +14,19 @@ use Rattle.table.specs.Rows.{kindIn}
 use Rattle.table.specs.Steps.{numberAt, faultIn}
 use Rattle.answer.specs.Numbers.{inside}
 use Rattle.answer.specs.declared.Setup.{Setup}
+use Rattle.answer.specs.declared.Kind.{Kind}
 use Rattle.answer.specs.declared.Kind.the-variants as kind
 use Rattle.answer.specs.declared.Outcome.{Outcome}
-use Rattle.answer.specs.declared.Outcome.the-variants.{Booked}
+use Rattle.answer.specs.declared.Outcome.the-variants.{Booked, Entered}
 use Rattle.fill.specs.Slot.{Slot, fullTime, execOf, orderOf, symbolOf, sideOf, quantityOf, sharesOf, priceOf, cumOf, timeOf}
-use Rattle.book.specs.Place.{place, fillsWith, ordersWith, hasRoom, inStep}
+use Rattle.fill.specs.Entry.{tradeOf, numberOf, entrySideOf, transactionOf, correctionOf, originalOf, entrySharesOf, entryPriceOf, entryTimeOf}
+use Rattle.book.specs.Place.{inStep}
+use Rattle.book.specs.Admitting.{place, hasRoom, withFill, withEntry}
+use Rattle.book.specs.declared.Load.{Load}
 use Rattle.book.specs.declared.Placed.the-variants as placed
 use Rattle.note.specs.Notes.{Books}
 use Rattle.report.specs.Report.{reportIn, slotIn, ruleFault}
+use Rattle.report.specs.Correction.{entryIn}
 use Rattle.session.specs.Reading.{seqGiven, idsGiven}
 use Rattle.tally.specs.Tally.{countOf, tallied}
 use Rattle.tally.specs.declared.Tally.{Tally}
@@ -29,16 +34,16 @@ use Rattle.receiver.specs.State.{State}
 use Rattle.receiver.specs.Receiver.{Message, Lent, Result, call}
 use Rattle.receiver.specs.declared.Answer.the-variants.{Framed}
 
--- a faultless report in its turn
-pub record InTurn (setup : Setup) (st : State) (ps : Pieces) : Type 0 where
+-- a faultless message of that type in its turn
+pub record InTurn (setup : Setup) (st : State) (ps : Pieces) (k : Kind) : Type 0 where
   -- phase 2 or 4
   pub phase : inside (st .phase) ≡ true
   -- steps 1, 2 and 4: it is numbered E, and between the agreed parties
   pub number : seqGiven (firstOf 34 ps) ≡ some (st .kept .e)
   pub parties : idsGiven setup (firstOf 49 ps) (firstOf 56 ps) ≡ none
-  -- steps 5 to 7, and its type is 8
+  -- steps 5 to 7, and its type
   pub faultless : faultIn setup (st .phase) (st .kept .o) ps ≡ none
-  pub type : kindIn setup ps ≡ kind.Report
+  pub type : kindIn setup ps ≡ k
 
 -- it keeps the four rules, has no 442, and among the day's fills its ExecID is new and its order, where known, has the same symbol and side
 pub record Fresh (st : State) (ps : Pieces) : Type 0 where
@@ -49,8 +54,19 @@ pub record Fresh (st : State) (ps : Pieces) : Type 0 where
 -- the bytes s begin with a framed message of len bytes, a report that is booked if there is room
 pub record Bookable (setup : Setup) (st : State) (s : List ℕ) (len : ℕ) : Type 0 where
   pub framed : foundIn s ≡ found.Framed len
-  pub turn : InTurn setup st (piecesOf (bodyIn len s))
+  pub turn : InTurn setup st (piecesOf (bodyIn len s)) kind.Report
   pub fresh : Fresh st (piecesOf (bodyIn len s))
+
+-- a correction that is entered if there is room: no entry of the day has its key
+pub record Enterable (setup : Setup) (st : State) (s : List ℕ) (len : ℕ) : Type 0 where
+  pub framed : foundIn s ≡ found.Framed len
+  pub turn : InTurn setup st (piecesOf (bodyIn len s)) kind.Correction
+  pub new : place (st .kept .slots) (entryIn (piecesOf (bodyIn len s))) ≡ placed.New
+
+-- either of them, and the slot that it brings
+pub data Bringing (setup : Setup) (st : State) (s : List ℕ) (len : ℕ) : Slot → Type 0 where
+  A-fill : Bookable setup st s len → Bringing setup st s len (slotIn (piecesOf (bodyIn len s)))
+  An-entry : Enterable setup st s len → Bringing setup st s len (entryIn (piecesOf (bodyIn len s)))
 
 -- refusals 1, 2 and 4 do not meet a message call; 3 cannot in phase 2 or 4
 pub record Unmet (st : State) (b : Lent) (time : List ℕ) : Type 0 where
@@ -60,14 +76,11 @@ pub record Unmet (st : State) (b : Lent) (time : List ℕ) : Type 0 where
   pub utc : isTime time ≡ true
   pub numbers : st .kept .o ≤ 999999997
 
--- what is then done: "Then it is booked and numbered from 1"; E rises by 1, O stays, the fill is the last of the day's, nothing is written but the note F
-abbrev pub bookedOutcome : State → Slot → Outcome
-bookedOutcome st f = Booked (length (st .kept .slots) + 1) (inStep (st .kept .slots) f)
-
-abbrev pub bookedResult : State → Tally → ℕ → Slot → Result
-bookedResult st t len f = record {
+-- what is then done: "Then it is booked and numbered from 1"; E rises by 1, O stays, the slot is the last of the day's, nothing is written but the note F or C
+abbrev pub bookedResult : State → Tally → ℕ → Slot → Load → Outcome → Result
+bookedResult st t len f load o = record {
   did = record {
-    answer = Framed len (bookedOutcome st f);
+    answer = Framed len o;
     next = record {
       phase = st .phase;
       asked = st .asked;
@@ -76,8 +89,7 @@ bookedResult st t len f = record {
         e = st .kept .e + 1;
         o = st .kept .o;
         slots = st .kept .slots ++ (f ∷ []);
-        fills = fillsWith (st .kept .fills) f;
-        orders = ordersWith (st .kept .slots) (st .kept .orders) f;
+        load = load;
         acked = st .kept .acked;
       };
     };
@@ -85,8 +97,16 @@ bookedResult st t len f = record {
     note = some (Books (st .kept .e + 1) (st .kept .o) f);
     line = [];
   };
-  tally = tallied (countOf (bookedOutcome st f)) t;
+  tally = tallied (countOf o) t;
 }
+
+-- a fill, and whether it is in step; an entry, of which no order knows
+abbrev pub filledResult : State → Tally → ℕ → Slot → Result
+filledResult st t len f =
+    bookedResult st t len f (withFill (st .kept .slots) (st .kept .load) f) (Booked (length (st .kept .slots) + 1) (inStep (st .kept .slots) f))
+
+abbrev pub enteredResult : State → Tally → ℕ → Slot → Result
+enteredResult st t len e = bookedResult st t len e (withEntry (st .kept .load)) (Entered (length (st .kept .slots) + 1))
 
 -- the fill has what the report says
 pub record Carries (ps : Pieces) (f : Slot) : Type 0 where
@@ -100,8 +120,23 @@ pub record Carries (ps : Pieces) (f : Slot) : Type 0 where
   pub cum : cumOf f ≡ numberAt 14 ps
   pub time : timeOf f ≡ fullTime (textAt 60 ps)
 
+-- the entry has what the correction says: the key, the trade that it changes, and the change
+pub record Enters (ps : Pieces) (e : Slot) : Type 0 where
+  pub trade : textOf (tradeOf e) ≡ textAt 1003 ps
+  pub number : numberOf e ≡ numberAt 9021 ps
+  pub side : entrySideOf e ≡ numberAt 54 ps
+  pub transaction : transactionOf e ≡ numberAt 20 ps
+  pub correction : correctionOf e ≡ numberAt 9020 ps
+  pub original : textOf (originalOf e) ≡ textAt 17 ps
+  pub shares : entrySharesOf e ≡ numberAt 32 ps
+  pub price : entryPriceOf e ≡ priceIn (textAt 31 ps)
+  pub time : entryTimeOf e ≡ fullTime (textAt 60 ps)
+
 -- any such message, in any such state, at any such time, where there is room
 pub record Demand2 (setup : Setup) (st : State) (b : Lent) (t : Tally) (time s : List ℕ) (len : ℕ) : Type 0 where
-  pub booked : Bookable setup st s len → hasRoom (st .kept .slots) (st .kept .fills) (st .kept .orders) (slotIn (piecesOf (bodyIn len s))) ≡ true → Unmet st b time
-      → call setup st b t (Message time s) ≡ bookedResult st t len (slotIn (piecesOf (bodyIn len s)))
+  pub booked : Bookable setup st s len → hasRoom (st .kept .slots) (st .kept .load) (slotIn (piecesOf (bodyIn len s))) ≡ true → Unmet st b time
+      → call setup st b t (Message time s) ≡ filledResult st t len (slotIn (piecesOf (bodyIn len s)))
   pub carries : Bookable setup st s len → Carries (piecesOf (bodyIn len s)) (slotIn (piecesOf (bodyIn len s)))
+  pub entered : Enterable setup st s len → hasRoom (st .kept .slots) (st .kept .load) (entryIn (piecesOf (bodyIn len s))) ≡ true → Unmet st b time
+      → call setup st b t (Message time s) ≡ enteredResult st t len (entryIn (piecesOf (bodyIn len s)))
+  pub enters : Enterable setup st s len → Enters (piecesOf (bodyIn len s)) (entryIn (piecesOf (bodyIn len s)))

@@ -1,18 +1,23 @@
--- The counts that are kept by value, and the slots they are of: "Then room: 512 fills, 128 orders".
+-- The counts that are kept by value, and the slots they are of: "Then room: 512 fills, 128 orders"; "also at 256 such entries".
+use Prim.Native.Nat.{_+_}
 use mathlib.Core.Path.{_≡_}
-use mathlib.Core.Bool.{_&&_, _||_}
+use mathlib.Core.Bool.{true, false, _&&_, _||_}
 use lib.Dec.{ltb}
 use lib.ListN.{length}
-use Rattle.fill.specs.Slot.{Slot, orderOf}
-use Rattle.book.specs.Place.{hasRoom}
-use Rattle.book.specs.Orders.{ordersOf, fillsOf, isAmong}
+use Rattle.fill.specs.Slot.{Slot, isEntry, orderOf}
+use Rattle.book.specs.Admitting.{hasRoom}
+use Rattle.book.specs.Orders.{ordersOf, fillsOf, entriesOf, isAmong}
 use Rattle.note.specs.Kept.{Kept}
 
 pub record Counted (q : Kept) : Type 0 where
-  -- the fills that are kept count the day's fills, and the orders the OrderIDs of these, each once
-  pub fills : q .fills ≡ fillsOf (q .slots)
-  pub orders : q .orders ≡ length (ordersOf (q .slots))
-  -- so room is the paper's: fewer than 512 fills, and its OrderID known or fewer than 128 of them
-  pub room : (f : Slot)
-      → hasRoom (q .slots) (q .fills) (q .orders) f
+  -- the fills that are kept count the day's fills, the orders the OrderIDs of these, each once, and the entries the day's entries; the last number counts both
+  pub fills : q .load .fills ≡ fillsOf (q .slots)
+  pub orders : q .load .orders ≡ length (ordersOf (q .slots))
+  pub entries : q .load .entries ≡ entriesOf (q .slots)
+  pub last : length (q .slots) ≡ fillsOf (q .slots) + entriesOf (q .slots)
+  -- so room is the paper's. For a fill: fewer than 512 fills, and its OrderID known or fewer than 128 of them
+  pub room : (f : Slot) → isEntry f ≡ false
+      → hasRoom (q .slots) (q .load) f
       ≡ ltb (fillsOf (q .slots)) 512 && (isAmong (orderOf f) (ordersOf (q .slots)) || ltb (length (ordersOf (q .slots))) 128)
+  -- for an entry: fewer than 256 entries
+  pub entry-room : (e : Slot) → isEntry e ≡ true → hasRoom (q .slots) (q .load) e ≡ ltb (entriesOf (q .slots)) 256

@@ -80,7 +80,7 @@ sortOf (Restart notes) = record { lent = noBuffer; time = none; phases = anyPhas
 
 -- ---- answers, by the numbers and values that the receiver's own table of them has (`tellsOf`)
 
--- what became of a framed message: the number under which it was booked (outcome 12), and whether a Reject was written (outcomes 2 and 3)
+-- what became of a framed message: the number under which a fill was booked (outcome 12) or an entry entered (13), and whether a Reject was written (outcomes 2 and 3)
 pub record Became : Type 0 where
   pub booked : Option ℕ
   pub rejected : Bool
@@ -90,7 +90,7 @@ neitherNor = record { booked = none; rejected = false }
 
 abbrev pub becameOf : Outcome → Became
 becameOf o = record {
-  booked = cond (eqb (outcomeNumber o) 12) (first (outcomeValues o)) none;
+  booked = cond (eqb (outcomeNumber o) 12 || eqb (outcomeNumber o) 13) (first (outcomeValues o)) none;
   rejected = eqb (outcomeNumber o) 2 || eqb (outcomeNumber o) 3;
 }
 
@@ -101,7 +101,7 @@ refusedWith a = tellsOf a .refused
 abbrev pub became : Answer → Became
 became a = whereGiven neitherNor becameOf (tellsOf a .became)
 
--- what a message was counted as, where it was: booked (outcome 12), already booked (outcome 11), rejected, or garbled (answer 3)
+-- what a message was counted as, where it was: booked (outcomes 12 and 13), already booked (outcome 11), rejected, or garbled (answer 3)
 abbrev pub isBooked : Answer → Bool
 isBooked a = not (isNone (became a .booked))
 

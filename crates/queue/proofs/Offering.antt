@@ -1,4 +1,4 @@
--- Laws of the queue: what each call answers, case by case; the waiting fills are those above the acknowledged mark, in order; offers after a
+-- Laws of the queue: what each call answers, case by case; the waiting slots are those above the acknowledged mark, in order; offers after a
 -- begin-again give each of them in that order, and then none for ever.
 use Prim.Native.Nat.{ℕ, zero, suc, _+_, _-_, _≤_, _<_}
 use mathlib.Core.Path.{_≡_, refl, sym, ap, _∙_}
@@ -14,7 +14,8 @@ use Rattle.octet.specs.Splice.{splice, fitsAt}
 use Rattle.octet.proofs.Cases.{cond-true, cond-false}
 use Rattle.octet.proofs.Lists.{fits-true}
 use Rattle.answer.specs.declared.Refusal.the-variants as refusal
-use Rattle.fill.specs.Slot.{Slot, lineLeast, lineOf}
+use Rattle.fill.specs.Slot.{Slot, lineLeast}
+use Rattle.fill.specs.Booked.{lineOf}
 use Rattle.book.specs.Memory.{slotsIn, slotAt}
 use Rattle.book.proofs.Slots.{slots-step, slots-end}
 use Rattle.answer.specs.declared.Setup.{Setup}
@@ -104,14 +105,14 @@ pub day-fresh : (m : Marks) → m .last ≤ m .acked → day.Fresh noMarks ≡ n
 unfolding newDay
 day-fresh m h = sym (rw (le-ltb (m .acked) (m .last) h))
 
--- ---- the waiting fills are those above the acknowledged mark, in order: the i-th of them, from 0, is fill acked + 1 + i
+-- ---- the waiting slots are those above the acknowledged mark, in order: the i-th of them, from 0, is number acked + 1 + i
 abbrev pub waitingOf : Marks → List Slot → List Slot
 waitingOf m ss = drop (m .acked) ss
 
 pub waiting-nth : (m : Marks) (ss : List Slot) (i : ℕ) → getD (waitingOf m ss) i [] ≡ getD ss (m .acked + i) []
 waiting-nth m ss i = getD-drop (m .acked) ss i []
 
--- an acknowledge that is taken takes all fills up to n, and leaves the others in their order
+-- an acknowledge that is taken takes all slots up to n, and leaves the others in their order
 pub waiting-after : (m : Marks) (ss : List Slot) (n : ℕ) → waitingOf (ackedUpTo n m) ss ≡ drop n ss
 waiting-after m ss n = refl
 
@@ -125,7 +126,7 @@ abbrev pub offersOf : Setup → ℕ → Marks → List Slot → ℕ → List Off
 offersOf setup zero m ss len = []
 offersOf setup (suc k) m ss len = offered setup m ss len ∷ offersOf setup k (marksAfter m (offered setup m ss len)) ss len
 
--- each of ws given, the first of them as fill n + 1
+-- each of ws given, the first of them as number n + 1
 abbrev pub givenFrom : Marks → ℕ → List Slot → List Offer
 givenFrom m n [] = []
 givenFrom m n (w ∷ ws) = offer.Given (offeredUpTo (n + 1) m) (length (lineOf (n + 1) w)) ∷ givenFrom m (n + 1) ws
@@ -153,6 +154,6 @@ module _ (setup : Setup) (m : Marks) (ss : List Slot) (len : ℕ) (enough : line
       ∙ ap (λ (l : List Offer). offer.Given (offeredUpTo (n + 1) m) (length (lineOf (n + 1) w)) ∷ l)
       (gives-all ws (n + 1) k (sym (drop-drop 1 n ss) ∙ ap (drop 1) e))
 
-  -- after a begin-again: each waiting fill, in order, then none, however often it is asked
+  -- after a begin-again: each waiting slot, in order, then none, however often it is asked
   pub begin-again-gives : (k : ℕ) → offersOf setup (length (waitingOf m ss) + k) (begunAgain m) ss len ≡ givenFrom m (m .acked) (waitingOf m ss) ++ replicate k offer.Nothing
   begin-again-gives k = gives-all (waitingOf m ss) (m .acked) k refl

@@ -1,4 +1,5 @@
--- "The queue": offer, begin-again, acknowledge and new day, over the marks and the day's slots, with refusals 1, 6 and 7.
+-- "The queue": offer, begin-again, acknowledge and new day, over the marks and the day's slots, with refusals 1, 6 and 7. "Where document 01 says fills of offer, acknowledge, new
+-- day .., it means these entries too": fills and entries share the numbers.
 use Prim.Native.Nat.{ℕ, _+_}
 use mathlib.Core.Path.{_≡_}
 use mathlib.Core.List.{List}
@@ -10,8 +11,11 @@ use Rattle.octet.specs.Maybe.{first}
 use Rattle.octet.specs.Splice.{splice}
 use Rattle.answer.specs.Numbers.{counted}
 use Rattle.answer.specs.declared.Setup.{Setup}
-use Rattle.fill.specs.Slot.{Slot, lineLeast, lineOf}
+use Rattle.fill.specs.Slot.{Slot, lineLeast}
+use Rattle.fill.specs.Booked.{lineOf}
 use Rattle.book.specs.Memory.{slotsIn}
+use Rattle.book.specs.Admitting.{noLoad}
+use Rattle.book.specs.declared.Load.{Load}
 use Rattle.note.specs.Kinds.{noteLeast}
 use Rattle.note.specs.Notes.{Acks, noteBytes}
 use Rattle.answer.specs.declared.Refusal.the-variants as refusal
@@ -24,21 +28,21 @@ use Rattle.queue.specs.declared.Day.{Day}
 use Rattle.queue.specs.declared.Day.the-variants as day
 
 abbrev pub noMarks : Marks
-noMarks = record { last = 0; fills = 0; orders = 0; acked = 0; offered = 0 }
+noMarks = record { last = 0; load = noLoad; acked = 0; offered = 0 }
 
 -- "After a restart .. offered equals acknowledged"
-abbrev pub marksAgain : ℕ → ℕ → ℕ → ℕ → Marks
-marksAgain last fills orders acked = record { last = last; fills = fills; orders = orders; acked = acked; offered = acked }
+abbrev pub marksAgain : ℕ → Load → ℕ → Marks
+marksAgain last load acked = record { last = last; load = load; acked = acked; offered = acked }
 
 -- one number more is given, and what there are then is counted
-abbrev pub oneMore : ℕ → ℕ → Marks → Marks
-oneMore fills orders m = record { last = counted (m .last) 1; fills = fills; orders = orders; acked = m .acked; offered = m .offered }
+abbrev pub oneMore : Load → Marks → Marks
+oneMore load m = record { last = counted (m .last) 1; load = load; acked = m .acked; offered = m .offered }
 
 abbrev pub offeredUpTo : ℕ → Marks → Marks
-offeredUpTo n m = record { last = m .last; fills = m .fills; orders = m .orders; acked = m .acked; offered = n }
+offeredUpTo n m = record { last = m .last; load = m .load; acked = m .acked; offered = n }
 
 abbrev pub ackedUpTo : ℕ → Marks → Marks
-ackedUpTo n m = record { last = m .last; fills = m .fills; orders = m .orders; acked = n; offered = m .offered }
+ackedUpTo n m = record { last = m .last; load = m .load; acked = n; offered = m .offered }
 
 -- "1: .. note buffer under 102, or line buffer under 128 bytes"
 abbrev pub shortLine : Setup → ℕ → Bool

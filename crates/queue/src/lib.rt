@@ -1,21 +1,23 @@
-// The queue to the ledger host: offer, begin-again, acknowledge, new day. Marks by value, the fills in the lent book.
+// The queue to the ledger host: offer, begin-again, acknowledge, new day. Marks by value, the fills and entries in the lent book, under the
+// numbers of one queue.
 ghost use mathlib.Core.Path.{_≡_};
 ghost use Rattle.queue.specs.Queue.{noMarks, marksAgain, oneMore, offeredUpTo, ackedUpTo, Offers, begunAgain, Acknowledges, newDay};
 use answer::Refusal;
 use answer::Setup;
 use book::BOOK;
+use book::Load;
+use book::NO_LOAD;
 
-// The last number given, as many slots the day has; how many of them are fills, and of how many orders; and the marks: the last number
+// The last number given, as many slots the day has; how many fills, orders and entries these are; and the marks: the last number
 // acknowledged, and the last offered.
 pub struct Marks {
     pub last: u32,
-    pub fills: u32,
-    pub orders: u32,
+    pub load: Load,
     pub acked: u32,
     pub offered: u32,
 }
 
-// What an offer answers: the marks after it and how long the line is; that there is no such fill; or a refusal.
+// What an offer answers: the marks after it and how long the line is; that there is no such slot; or a refusal.
 pub enum Offer {
     Given(Marks, usize),
     Nothing,
@@ -40,34 +42,31 @@ impl Marks {
     {
         Marks {
             last: 0,
-            fills: 0,
-            orders: 0,
+            load: NO_LOAD,
             acked: 0,
             offered: 0,
         }
     }
 
     // After a restart: "offered equals acknowledged".
-    pub fn again(last: u32, fills: u32, orders: u32, acked: u32) -> Marks
-        ensures { λ r. ⌜ r ≡ marksAgain last fills orders acked ⌝ }
+    pub fn again(last: u32, load: Load, acked: u32) -> Marks
+        ensures { λ r. ⌜ r ≡ marksAgain last load acked ⌝ }
     {
         Marks {
             last,
-            fills,
-            orders,
+            load,
             acked,
             offered: acked,
         }
     }
 
-    // One number more is given; fills and orders are what there are then.
-    pub fn one_more(self, fills: u32, orders: u32) -> Marks
-        ensures { λ r. ⌜ r ≡ oneMore fills orders self ⌝ }
+    // One number more is given; load is what there are then.
+    pub fn one_more(self, load: Load) -> Marks
+        ensures { λ r. ⌜ r ≡ oneMore load self ⌝ }
     {
         Marks {
             last: answer::count_on(self.last, 1),
-            fills,
-            orders,
+            load,
             acked: self.acked,
             offered: self.offered,
         }
@@ -77,10 +76,10 @@ impl Marks {
     fn offered_up_to(self, n: u32) -> Marks
         ensures { λ r. ⌜ r ≡ offeredUpTo n self ⌝ }
     {
+        let load = self.load;
         Marks {
             last: self.last,
-            fills: self.fills,
-            orders: self.orders,
+            load,
             acked: self.acked,
             offered: n,
         }
@@ -89,10 +88,10 @@ impl Marks {
     fn acked_up_to(self, n: u32) -> Marks
         ensures { λ r. ⌜ r ≡ ackedUpTo n self ⌝ }
     {
+        let load = self.load;
         Marks {
             last: self.last,
-            fills: self.fills,
-            orders: self.orders,
+            load,
             acked: n,
             offered: self.offered,
         }
@@ -122,7 +121,7 @@ impl Marks {
     }
 
     // "Acknowledge n takes all fills up to n; n at or below the mark is already, no change." It is refused above the offered
-    // mark. The fills stay where they are.
+    // mark. The slots stay where they are.
     pub fn acknowledge(
         self,
         setup: Setup,
@@ -145,7 +144,7 @@ impl Marks {
         Acknowledged::Taken(self.acked_up_to(n))
     }
 
-    // "New day (.. nothing waiting) gives the fresh, empty state." What is in the lent book is then of no fill.
+    // "New day (.. nothing waiting) gives the fresh, empty state." What is in the lent book is then of no slot.
     pub fn new_day(self, book: &mut [u8; BOOK]) -> Day
         ensures { λ r. ⌜ (r ≡ newDay self) × (now (book .exit) ≡ now (book .entry)) ⌝ }
     {

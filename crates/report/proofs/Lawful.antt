@@ -6,11 +6,12 @@ use mathlib.Core.Path.{_≡_, refl, ap, _∙_}
 use mathlib.Core.Logic.{⊎-elim}
 use mathlib.Core.Option.{none}
 use mathlib.Core.Bool.{true}
-use Prim.Native.Nat.{ℕ, _≤_}
+use Prim.Native.Nat.{ℕ}
 use native.Mathlib.Omega.{arith}
 use lib.ListN.{length}
 use Rattle.octet.specs.Bytes.{between}
 use Rattle.octet.specs.Padded.{textOf}
+use Rattle.octet.proofs.Lists.{between-high}
 use Rattle.value.specs.Value.{priceIn}
 use Rattle.value.proofs.Prices.{price-small}
 use Rattle.value.proofs.Times.{time-is}
@@ -21,8 +22,10 @@ use Rattle.answer.specs.declared.Phase.{Phase}
 use Rattle.answer.specs.declared.Kind.the-variants as kind
 use Rattle.table.specs.Rows.{kindIn}
 use Rattle.table.specs.Steps.{numberAt, faultIn}
+use Rattle.table.proofs.Faultless.{OneByte}
 use Rattle.table.proofs.Messages.{ReportValues, report-values, side-number}
-use Rattle.fill.specs.Slot.{Slot, Fill, slotWidth, bodyOf, slotOf, isFill, fullTime, execOf, orderOf, symbolOf, sideOf, quantityOf, sharesOf, priceOf, cumOf, timeOf, slotLawful}
+use Rattle.fill.specs.Slot.{Slot, Fill, slotWidth, bodyOf, slotOf, isFill, fullTime, execOf, orderOf, symbolOf, sideOf, quantityOf, sharesOf, priceOf, cumOf, timeOf}
+use Rattle.fill.specs.Booked.{slotLawful}
 use Rattle.fill.proofs.Fields.{Sound, slot-length, slot-lawful, exec-back, order-back, symbol-back, side-back, quantity-back, shares-back, price-back, cum-back, time-back}
 use Rattle.report.specs.Report.{fillOf, reportOf, reportIn, ruleFault, slotFor, slotIn}
 use Rattle.report.proofs.Kept.{Kept, kept}
@@ -62,18 +65,16 @@ pub record Lawful (s : Slot) : Type 0 where
   pub long : length s ≡ slotWidth
   pub marked : isFill s ≡ true
 
+-- 54 as a number
+pub side-one : (ps : Pieces) → OneByte 49 50 (textAt 54 ps) → between 1 2 (numberAt 54 ps) ≡ true
+side-one ps b = ⊎-elim (λ e. ap (between 1 2) e) (λ e. ap (between 1 2) e) (side-number (textAt 54 ps) b)
+
 module _ (ps : Pieces) (v : ReportValues ps) where
-  side-one : between 1 2 (numberAt 54 ps) ≡ true
-  side-one = ⊎-elim (λ e. ap (between 1 2) e) (λ e. ap (between 1 2) e) (side-number (textAt 54 ps) (v .side))
-
-  side-small : numberAt 54 ps ≤ 2
-  side-small = ⊎-elim (λ e. omega arith) (λ e. omega arith) (side-number (textAt 54 ps) (v .side))
-
   pub values-back : Back ps
   values-back =
       let f = fillIn ps in
       let made = slot-made ps in
-      let sides = side-small in
+      let sides = between-high 1 2 (numberAt 54 ps) (side-one ps (v .side)) in
       let quantities = v .quantity .most in
       let sharing = v .shares .most in
       let cums = v .cum .most in
@@ -103,7 +104,7 @@ module _ (ps : Pieces) (v : ReportValues ps) where
         symbol-some = v .symbol .from;
         symbol-short = v .symbol .to;
         symbol-graph = v .symbol .bytes;
-        side-one = side-one;
+        side-one = side-one ps (v .side);
         shares-some = v .shares .least;
         shares-cum = k .shares-cum;
         cum-quantity = k .cum-quantity;

@@ -1,4 +1,5 @@
 pub mod Rules
 pub mod Kept
 pub mod Lawful
+pub mod Correction
 pub mod Unique

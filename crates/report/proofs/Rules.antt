@@ -1,7 +1,7 @@
 -- What the reading of a report and its rules put together.
 --     exactly-yes, exactly-no     "exactly when", by its first side
 --     rules-told     the rules in their order, from what each said
---     slot-read     the slot, from the values read: of the side one byte
+--     slot-read, entry-read     the slot of a fill and of an entry, from the values read: of a code one byte
 use mathlib.Core.Path.{_≡_, refl, sym, ap, _∙_}
 use mathlib.Core.List.{List, [], _∷_}
 use mathlib.Core.Bool.{Bool, true, false, not, Bool·beq}
@@ -16,8 +16,10 @@ use Rattle.field.specs.Look.{Look}
 use Rattle.table.specs.Steps.{numberOf}
 use Rattle.parts.specs.Parts.{laid}
 use Rattle.fill.specs.Slot.{fillOf, bodyOf, slotOf}
+use Rattle.fill.specs.Entry.{entryOf, entryBody, entrySlot}
 use Rattle.report.specs.declared.Sums.{Sums}
 use Rattle.report.specs.Report.{reportWith, rule14, rule151, rule150, rule39, unlessKept, ruleFault, slotFor}
+use Rattle.report.specs.Correction.{entryFor}
 
 -- one thing is so exactly when another is
 pub exactly-yes : (t b : Bool) → t ≡ true → b ≡ Bool·beq t b
@@ -47,3 +49,12 @@ pub slot-read : (look : Look) {r exec order symbol time : List ℕ} {side price 
     → shares ≡ numberOf look 32 → price ≡ priceIn (look .text 31) → cum ≡ numberOf look 14 → time ≡ look .text 60 → r ≡ slotFor look
 unfolding slotFor bodyOf laid
 slot-read look er ee eo ey ed eq es ep ec et = er ∙ rw (ee, eo, ey, ed, eq, es, ep, ec, et, one-place (numberOf look 54))
+
+pub entry-read : (look : Look) {r trade exec time : List ℕ} {number side transaction correction shares price : ℕ}
+    → r ≡ entrySlot (entryOf trade number side transaction correction exec shares price time)
+    → trade ≡ look .text 1003 → number ≡ numberOf look 9021 → side ≡ numberOf look 54 % 256 → transaction ≡ numberOf look 20 % 256
+    → correction ≡ numberOf look 9020 % 256 → exec ≡ look .text 17 → shares ≡ numberOf look 32 → price ≡ priceIn (look .text 31) → time ≡ look .text 60
+    → r ≡ entryFor look
+unfolding entryFor entryBody laid
+entry-read look er et en ed ex ec ee es ep em =
+    er ∙ rw (et, en, ed, ex, ec, ee, es, ep, em, one-place (numberOf look 54), one-place (numberOf look 20), one-place (numberOf look 9020))

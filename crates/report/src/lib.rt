@@ -1,4 +1,4 @@
-// An execution report that passed the table: its values, the four rules, and the slot of its fill.
+// An execution report that passed the table: its values, the four rules, and the slot of its fill; and the slot of the entry that a Trade Cancel/Correct tells of.
 use answer::Fault;
 use answer::reasons;
 use answer::tags;
@@ -16,6 +16,7 @@ ghost use Rattle.answer.specs.Numbers.{fault, wrongValue};
 ghost use Rattle.field.specs.Look.{lookIn};
 ghost use Rattle.table.specs.Steps.{numberOf, found};
 ghost use Rattle.report.specs.Report.{sumsOf, reportWith, rule14, rule151, rule150, rule39, ruleFault, reportedOf, slotFor};
+ghost use Rattle.report.specs.Correction.{entryFor};
 
 // What a report says: it breaks a rule, it is set aside, or it tells of a fill.
 pub enum Reported {
@@ -132,26 +133,44 @@ fn price_at(body: &[u8], index: &Index) -> u64
     value::price_of(value_at(body, index, tags::LAST_PRICE))
 }
 
-// The side as a slot has it, in one byte. A report that passed the table has 1 or 2.
-fn side_at(body: &[u8], index: &Index) -> u8
-    ensures { λ r. ⌜ r ≡ numberOf (lookIn (now (body .entry)) (now (index .entry))) 54 % 256 ⌝ }
+// A code as a slot has it, in one byte. In a message that passed the table the codes of a slot are digits.
+fn code_at(body: &[u8], index: &Index, tag: u32) -> u8
+    ensures { λ r. ⌜ r ≡ numberOf (lookIn (now (body .entry)) (now (index .entry))) tag % 256 ⌝ }
 {
-    (number_at(body, index, tags::SIDE) % 256) as u8
+    (number_at(body, index, tag) % 256) as u8
 }
 
 // The slot of the fill that a report tells of, by its body's index.
 pub fn slot_at(body: &[u8], index: &Index) -> [u8; SLOT]
     ensures { λ r. ⌜ r ≡ slotFor (lookIn (now (body .entry)) (now (index .entry))) ⌝ }
 {
+    let exec = value_at(body, index, tags::EXEC_ID);
     fill::slot_with(
-        value_at(body, index, tags::EXEC_ID),
+        exec,
         value_at(body, index, tags::ORDER_ID),
         value_at(body, index, tags::SYMBOL),
-        side_at(body, index),
+        code_at(body, index, tags::SIDE),
         number_at(body, index, tags::ORDER_QTY),
         number_at(body, index, tags::LAST_SHARES),
         price_at(body, index),
         number_at(body, index, tags::CUM_QTY),
+        value_at(body, index, tags::TIME),
+    )
+}
+
+// The slot of the entry that a Trade Cancel/Correct tells of, by its body's index.
+pub fn entry_at(body: &[u8], index: &Index) -> [u8; SLOT]
+    ensures { λ r. ⌜ r ≡ entryFor (lookIn (now (body .entry)) (now (index .entry))) ⌝ }
+{
+    fill::entry_with(
+        value_at(body, index, tags::TRADE_ID),
+        number_at(body, index, tags::CORRECTION_NUM),
+        code_at(body, index, tags::SIDE),
+        code_at(body, index, tags::TRANSACTION),
+        code_at(body, index, tags::CORRECTION_TYPE),
+        value_at(body, index, tags::EXEC_ID),
+        number_at(body, index, tags::LAST_SHARES),
+        price_at(body, index),
         value_at(body, index, tags::TIME),
     )
 }

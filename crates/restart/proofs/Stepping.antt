@@ -12,11 +12,14 @@ use lib.Dec.{leb, ltb, eqb}
 use Rattle.octet.proofs.Cases.{cond-true, cond-false, of-cond, and-no-left, bool-case}
 use Rattle.octet.proofs.Lists.{drop-done}
 use Rattle.answer.specs.Numbers.{largest, nineDigits}
-use Rattle.fill.specs.Slot.{Slot, slotLawful}
+use Rattle.fill.specs.Slot.{Slot}
+use Rattle.fill.specs.Booked.{slotLawful}
 use Rattle.book.specs.Memory.{mostSlots, bookWidth, slotsIn, appended, holding}
-use Rattle.book.specs.Place.{place, isNew, fillsWith, ordersWith, hasRoom}
-use Rattle.book.specs.Admitting.{bookingOf}
-use Rattle.book.proofs.Placing.{has-room, booking-fills, booking-orders}
+use Rattle.book.specs.Place.{isNew}
+use Rattle.book.specs.Admitting.{place, hasRoom, loadWith, bookingOf, admitOf}
+use Rattle.book.specs.declared.Admitted.{Admitted}
+use Rattle.book.specs.declared.Load.{Load}
+use Rattle.book.proofs.Placing.{has-room, booking-load}
 use Rattle.book.proofs.Slots.{slots-length, slots-append, appended-length, Wide, none-wide, more-wide, holding-slots}
 use Rattle.note.specs.Notes.{Note, Raises, Books, Acks, Clears, Reading, Whole, Part, Unknown, readNote, sizeTaken}
 use Rattle.note.specs.Kept.{Kept, empty, bookable, lawful, after}
@@ -52,68 +55,71 @@ module _ (q : Kept) where
   unfolding stepNote
   step-yes n k t e = ap step.On e ∙ sym (cond-true (lawful q n) (step.On (countsOf (after q n))) step.Bad (sym t))
 
-pub bookable-by : (ss : List Slot) (fills orders : ℕ) (s : Slot) {a b c : Bool} → slotLawful s ≡ a → isNew (place ss s) ≡ b → hasRoom ss fills orders s ≡ c
-    → a && b && c ≡ bookable ss fills orders s
+pub bookable-by : (ss : List Slot) (load : Load) (s : Slot) {a b c : Bool} → slotLawful s ≡ a → isNew (place ss s) ≡ b → hasRoom ss load s ≡ c
+    → a && b && c ≡ bookable ss load s
 unfolding bookable
-bookable-by ss fills orders s ea eb ec = cc
+bookable-by ss load s ea eb ec = cc
 
--- an F note whose numbers are not the next, and one whose numbers are
+-- an F or a C note whose numbers are not the next, and one whose numbers are
 pub next-by : (m : Counts) (e o : ℕ) {a b c : Bool} → eqb e (m .e + 1) ≡ a → leb e nineDigits ≡ b → eqb o (m .o) ≡ c → a && b && c ≡ isNext m e o
 next-by m e o ea eb ec = cc
+
+-- what becomes of its slot, as the book is asked it
+pub admits : (m : Counts) (mem : List ℕ) (s : Slot) (k : ℕ) (r : Admitted) → k ≡ m .last → r ≡ admitOf (slotsIn k mem) (m .load) s → admitOf (slotsIn (m .last) mem) (m .load) s ≡ r
+admits m mem s k r e f = ap (λ (n : ℕ). admitOf (slotsIn n mem) (m .load) s) (sym e) ∙ sym f
 
 module _ (m : Counts) (mem : List ℕ) (e o : ℕ) (s : Slot) where
   pub books-out : isNext m e o ≡ false → false ≡ lawful (keptIn m mem) (Books e o s)
   unfolding lawful
-  books-out h = sym (and-no-left (isNext m e o) (bookable (slotsIn (m .last) mem) (m .fills) (m .orders) s) h)
+  books-out h = sym (and-no-left (isNext m e o) (bookable (slotsIn (m .last) mem) (m .load) s) h)
 
-  pub books-next : {d : Bool} → isNext m e o ≡ true → d ≡ bookable (slotsIn (m .last) mem) (m .fills) (m .orders) s → d ≡ lawful (keptIn m mem) (Books e o s)
+  pub books-next : {d : Bool} → isNext m e o ≡ true → d ≡ bookable (slotsIn (m .last) mem) (m .load) s → d ≡ lawful (keptIn m mem) (Books e o s)
   unfolding lawful
-  books-next h f = f ∙ sym (ap (λ (a : Bool). a && bookable (slotsIn (m .last) mem) (m .fills) (m .orders) s) h)
+  books-next h f = f ∙ sym (ap (λ (a : Bool). a && bookable (slotsIn (m .last) mem) (m .load) s) h)
 
 -- ---- counts
-abbrev counts : ℕ → ℕ → ℕ → ℕ → ℕ → ℕ → Counts
-counts e o last fills orders acked = record { e = e; o = o; last = last; fills = fills; orders = orders; acked = acked }
+abbrev counts : ℕ → ℕ → ℕ → Load → ℕ → Counts
+counts e o last load acked = record { e = e; o = o; last = last; load = load; acked = acked }
 
-abbrev kept : ℕ → ℕ → List Slot → ℕ → ℕ → ℕ → Kept
-kept e o slots fills orders acked = record { e = e; o = o; slots = slots; fills = fills; orders = orders; acked = acked }
+abbrev kept : ℕ → ℕ → List Slot → Load → ℕ → Kept
+kept e o slots load acked = record { e = e; o = o; slots = slots; load = load; acked = acked }
 
 module _ (m : Counts) (mem : List ℕ) where
   pub last-is : length (keptIn m mem .slots) ≡ m .last
   last-is = slots-length (m .last) mem
 
   pub counts-kept : countsOf (keptIn m mem) ≡ m
-  counts-kept = ap (λ (n : ℕ). counts (m .e) (m .o) n (m .fills) (m .orders) (m .acked)) last-is
+  counts-kept = ap (λ (n : ℕ). counts (m .e) (m .o) n (m .load) (m .acked)) last-is
 
-  pub on-raises : (e o : ℕ) → counts e o (m .last) (m .fills) (m .orders) (m .acked) ≡ countsOf (after (keptIn m mem) (Raises e o))
+  pub on-raises : (e o : ℕ) → counts e o (m .last) (m .load) (m .acked) ≡ countsOf (after (keptIn m mem) (Raises e o))
   unfolding after
-  on-raises e o = ap (λ (n : ℕ). counts e o n (m .fills) (m .orders) (m .acked)) (sym last-is)
+  on-raises e o = ap (λ (n : ℕ). counts e o n (m .load) (m .acked)) (sym last-is)
 
-  pub on-acks : (k : ℕ) → counts (m .e) (m .o) (m .last) (m .fills) (m .orders) k ≡ countsOf (after (keptIn m mem) (Acks k))
+  pub on-acks : (k : ℕ) → counts (m .e) (m .o) (m .last) (m .load) k ≡ countsOf (after (keptIn m mem) (Acks k))
   unfolding after
-  on-acks k = ap (λ (n : ℕ). counts (m .e) (m .o) n (m .fills) (m .orders) k) (sym last-is)
+  on-acks k = ap (λ (n : ℕ). counts (m .e) (m .o) n (m .load) k) (sym last-is)
 
   pub on-clears : countsOf empty ≡ countsOf (after (keptIn m mem) Clears)
   unfolding after
   on-clears = refl
 
-  pub on-books : (e o fills orders : ℕ) (s : Slot) → fills ≡ fillsWith (m .fills) s → orders ≡ ordersWith (slotsIn (m .last) mem) (m .orders) s
-      → counts e o (m .last + 1) fills orders (m .acked) ≡ countsOf (after (keptIn m mem) (Books e o s))
+  pub on-books : (e o : ℕ) (load : Load) (s : Slot) → load ≡ loadWith (slotsIn (m .last) mem) (m .load) s
+      → counts e o (m .last + 1) load (m .acked) ≡ countsOf (after (keptIn m mem) (Books e o s))
   unfolding after
-  on-books e o fills orders s g h =
+  on-books e o load s g =
       let l : m .last + 1 ≡ length (slotsIn (m .last) mem ++ (s ∷ [])) = omega (arith, last-is, length-append (slotsIn (m .last) mem) (s ∷ [])) in
-      ap (λ (n : ℕ). counts e o n fills orders (m .acked)) l
-      ∙ ap₂ (λ (f x : ℕ). counts e o (length (slotsIn (m .last) mem ++ (s ∷ []))) f x (m .acked)) g h
+      ap₂ (λ (n : ℕ) (x : Load). counts e o n x (m .acked)) l g
 
   -- the steps of S, K and D go by the counts alone
   pub any-raises : (e o : ℕ) → stepNote (bare m) (Raises e o) ≡ stepNote (keptIn m mem) (Raises e o)
   unfolding stepNote lawful after
   any-raises e o =
-      ap (λ (n : ℕ). cond (lawful (bare m) (Raises e o)) (step.On (counts e o n (m .fills) (m .orders) (m .acked))) step.Bad) (slots-length (m .last) [] ∙ sym last-is)
+      ap (λ (n : ℕ). cond (lawful (bare m) (Raises e o)) (step.On (counts e o n (m .load) (m .acked))) step.Bad) (slots-length (m .last) [] ∙ sym last-is)
 
   pub any-acks : (k : ℕ) → stepNote (bare m) (Acks k) ≡ stepNote (keptIn m mem) (Acks k)
   unfolding stepNote lawful after
   any-acks k =
-      ap (λ (n : ℕ). cond (ltb (m .acked) k && leb k n) (step.On (counts (m .e) (m .o) n (m .fills) (m .orders) k)) step.Bad) (slots-length (m .last) [] ∙ sym last-is)
+      ap (λ (n : ℕ). cond (ltb (m .acked) k && leb k n) (step.On (counts (m .e) (m .o) n (m .load) k)) step.Bad) (slots-length (m .last) [] ∙ sym last-is)
 
   pub any-clears : stepNote (bare m) Clears ≡ stepNote (keptIn m mem) Clears
   unfolding stepNote lawful after
@@ -124,18 +130,18 @@ module _ (m : Counts) (mem : List ℕ) where
 pub kept-after : (m : Counts) (mem : List ℕ) (note : Note) → length mem ≡ bookWidth → Slotted note → lawful (keptIn m mem) note ≡ true
     → keptIn (countsOf (after (keptIn m mem) note)) (memNote mem (keptIn m mem) note) ≡ after (keptIn m mem) note
 unfolding after memNote slotsIn
-kept-after m mem (Raises e o) l w t = ap (λ (n : ℕ). kept e o (slotsIn n mem) (m .fills) (m .orders) (m .acked)) (last-is m mem)
+kept-after m mem (Raises e o) l w t = ap (λ (n : ℕ). kept e o (slotsIn n mem) (m .load) (m .acked)) (last-is m mem)
 kept-after m mem (Books e o s) l w t =
     let q = keptIn m mem in
     let ss = slotsIn (m .last) mem in
-    let room : length ss < mostSlots = has-room ss (m .fills) (m .orders) s (bookable-facts ss (m .fills) (m .orders) s (lawful-books q e o s t .3) .2) .slot-left in
+    let room : length ss < mostSlots = has-room ss (m .load) s (bookable-facts ss (m .load) s (lawful-books q e o s t .3) .2) .slot-left in
     let f : length ss ≡ m .last = last-is m mem in
     let n : length (ss ++ (s ∷ [])) ≡ m .last + 1 = omega (arith, length-append ss (s ∷ [])) in
     let mem′ : cond (lawful q (Books e o s)) (appended mem (length ss) s) mem ≡ appended mem (m .last) s =
     cond-true (lawful q (Books e o s)) (appended mem (length ss) s) mem t ∙ ap (λ (k : ℕ). appended mem k s) f in
-    ap (λ (x : List Slot). kept e o x (fillsWith (m .fills) s) (ordersWith ss (m .orders) s) (m .acked))
+    ap (λ (x : List Slot). kept e o x (loadWith ss (m .load) s) (m .acked))
     (ap₂ slotsIn n mem′ ∙ slots-append mem (m .last) s (omega arith) (w .wide) l)
-kept-after m mem (Acks k) l w t = ap (λ (n : ℕ). kept (m .e) (m .o) (slotsIn n mem) (m .fills) (m .orders) k) (last-is m mem)
+kept-after m mem (Acks k) l w t = ap (λ (n : ℕ). kept (m .e) (m .o) (slotsIn n mem) (m .load) k) (last-is m mem)
 kept-after m mem Clears l w t = refl
 
 -- ---- what a step says of the whole restart
@@ -282,18 +288,16 @@ module _ (m : Counts) (mem : List ℕ) (e o : ℕ) (s : Slot) (t : true ≡ lawf
       h ∙ ap (λ (k : ℕ). appended mem k s) (sym (last-is m mem))
       ∙ sym (cond-true (lawful (keptIn m mem) (Books e o s)) (appended mem (length (slotsIn (m .last) mem)) s) mem (sym t))
 
-  room : hasRoom (slotsIn (m .last) mem) (m .fills) (m .orders) s ≡ true
-  room = bookable-facts (slotsIn (m .last) mem) (m .fills) (m .orders) s (lawful-books (keptIn m mem) e o s (sym t) .3) .2
+  room : hasRoom (slotsIn (m .last) mem) (m .load) s ≡ true
+  room = bookable-facts (slotsIn (m .last) mem) (m .load) s (lawful-books (keptIn m mem) e o s (sym t) .3) .2
 
   -- the counts stay in their range
   pub last-few : m .last < mostSlots
-  last-few = omega (arith, last-is m mem, has-room (slotsIn (m .last) mem) (m .fills) (m .orders) s room .slot-left)
+  last-few = omega (arith, last-is m mem, has-room (slotsIn (m .last) mem) (m .load) s room .slot-left)
 
-  pub fills-fit : bookingOf (slotsIn (m .last) mem) (m .fills) (m .orders) s .fills ≡ fillsWith (m .fills) s
-  fills-fit = booking-fills (slotsIn (m .last) mem) (m .fills) (m .orders) s room
-
-  pub orders-fit : m .orders ≤ largest → bookingOf (slotsIn (m .last) mem) (m .fills) (m .orders) s .orders ≡ ordersWith (slotsIn (m .last) mem) (m .orders) s
-  orders-fit h = booking-orders (slotsIn (m .last) mem) (m .fills) (m .orders) s h room
+  pub load-fits : m .load .fills ≤ largest → m .load .orders ≤ largest → m .load .entries ≤ largest
+      → bookingOf (slotsIn (m .last) mem) (m .load) s .load ≡ loadWith (slotsIn (m .last) mem) (m .load) s
+  load-fits hf ho he = booking-load (slotsIn (m .last) mem) (m .load) s hf ho he room
 
 -- ---- the used slots of the replay are copied into the book
 -- only they are written

@@ -36,7 +36,7 @@ restart notes = run (length notes) empty 0 notes
 -- ---- the code's answer, with the slots in the lent book: "Lent bytes past what is written stay"
 
 abbrev pub countsOf : Kept → Counts
-countsOf q = record { e = q .e; o = q .o; last = length (q .slots); fills = q .fills; orders = q .orders; acked = q .acked }
+countsOf q = record { e = q .e; o = q .o; last = length (q .slots); load = q .load; acked = q .acked }
 
 abbrev pub told : Outcome → Restarted
 told (Again q whole) = restarted.Again (countsOf q) whole

@@ -17,7 +17,7 @@ use Rattle.restart.specs.declared.Step.the-variants as step
 
 -- what is kept, from the counts and the memory that has the slots
 abbrev pub keptIn : Counts → List ℕ → Kept
-keptIn m mem = record { e = m .e; o = m .o; slots = slotsIn (m .last) mem; fills = m .fills; orders = m .orders; acked = m .acked }
+keptIn m mem = record { e = m .e; o = m .o; slots = slotsIn (m .last) mem; load = m .load; acked = m .acked }
 
 -- S, K and D are judged by the counts alone: any memory does
 abbrev pub bare : Counts → Kept
@@ -27,7 +27,7 @@ bare m = keptIn m []
 abbrev pub raised : Counts → ℕ → ℕ → Bool
 raised m e o = ltb (m .e) e || ltb (m .o) o
 
--- "F has E one up within that, O the same"
+-- "F has E one up within that, O the same", and so has C
 abbrev pub isNext : Counts → ℕ → ℕ → Bool
 isNext m e o = eqb e (m .e + 1) && leb e nineDigits && eqb o (m .o)
 
@@ -39,7 +39,7 @@ stepRead q (Whole note n) = stepNote q note
 stepRead q Part = step.End
 stepRead q Unknown = step.Bad
 
--- the memory after it: one slot more where a fill is booked
+-- the memory after it: one slot more where a fill or an entry is booked
 unfoldable pub memNote : List ℕ → Kept → Note → List ℕ
 memNote mem q (Raises e o) = mem
 memNote mem q (Books e o s) = cond (lawful q (Books e o s)) (appended mem (length (q .slots)) s) mem

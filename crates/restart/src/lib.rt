@@ -11,6 +11,8 @@ ghost use Rattle.restart.specs.Steps.{keptIn, bare, raised, isNext, step
 use answer::NINE_DIGITS;
 use book::Admitted;
 use book::BOOK;
+use book::Load;
+use book::NO_LOAD;
 use note::Read;
 
 // What the notes keep but for the slots, which are in the lent book: last is the last number given, as many slots there are.
@@ -18,8 +20,7 @@ pub struct Counts {
     pub e: u32,
     pub o: u32,
     pub last: u32,
-    pub fills: u32,
-    pub orders: u32,
+    pub load: Load,
     pub acked: u32,
 }
 
@@ -71,17 +72,17 @@ fn step_raises(m: Counts, e: u32, o: u32) -> Step
     if !raises_lawful(m, e, o) {
         return Step::Bad;
     }
+    let load = m.load;
     Step::On(Counts {
         e,
         o,
         last: m.last,
-        fills: m.fills,
-        orders: m.orders,
+        load,
         acked: m.acked,
     })
 }
 
-// "K is above the mark and at most the last fill".
+// "K is above the mark and at most the last fill", or entry.
 fn step_acks(m: Counts, n: u32) -> Step
     ensures { λ r. ⌜ r ≡ stepNote (bare m) (Acks n) ⌝ }
 {
@@ -91,12 +92,12 @@ fn step_acks(m: Counts, n: u32) -> Step
     if m.last < n {
         return Step::Bad;
     }
+    let load = m.load;
     Step::On(Counts {
         e: m.e,
         o: m.o,
         last: m.last,
-        fills: m.fills,
-        orders: m.orders,
+        load,
         acked: n,
     })
 }
@@ -109,8 +110,7 @@ fn empty_counts() -> Counts
         e: 1,
         o: 1,
         last: 0,
-        fills: 0,
-        orders: 0,
+        load: NO_LOAD,
         acked: 0,
     }
 }
@@ -131,7 +131,7 @@ fn wide(n: u32) -> usize
     n as usize
 }
 
-// "F has E one up within that, O the same".
+// "F has E one up within that, O the same", and so has C.
 fn is_next(m: Counts, e: u32, o: u32) -> bool
     ensures { λ r. ⌜ r ≡ isNext m e o ⌝ }
 {
@@ -147,7 +147,7 @@ fn is_next(m: Counts, e: u32, o: u32) -> bool
     o == m.o
 }
 
-// "F has E one up within that, O the same, and a report that would be booked". The slot is written after the last one.
+// "F has E one up within that, O the same, and a report that would be booked"; C alike, with an entry. The slot is written after the last one.
 fn step_books(mem: &mut [u8; BOOK], m: Counts, e: u32, o: u32, slot: &[u8]) -> Step
     ensures { λ r. ⌜ Takes (now (mem .entry)) (keptIn m (now (mem .entry))) (Books e o (now (slot .entry))) r (now (mem .exit)) ⌝ }
 {
@@ -158,18 +158,19 @@ fn step_books(mem: &mut [u8; BOOK], m: Counts, e: u32, o: u32, slot: &[u8]) -> S
     if !fill::is_lawful(slot) {
         return Step::Bad;
     }
-    match book::admit(mem, last, m.fills, m.orders, slot) {
+    let load = m.load;
+    match book::admit(mem, last, load, slot) {
         Admitted::Clash(_) => Step::Bad,
         Admitted::Already => Step::Bad,
         Admitted::Full => Step::Bad,
         Admitted::New(booking) => {
+            let more = booking.load;
             book::append(mem, last, slot);
             Step::On(Counts {
                 e,
                 o,
                 last: m.last + 1,
-                fills: booking.fills,
-                orders: booking.orders,
+                load: more,
                 acked: m.acked,
             })
         }
@@ -191,7 +192,7 @@ fn take_note(mem: &mut [u8; BOOK], m: Counts, says: Read, s: &[u8]) -> Step
     }
 }
 
-// The notes one by one, their fills into mem.
+// The notes one by one, their slots into mem.
 fn replay(mem: &mut [u8; BOOK], notes: &[u8]) -> Restarted
     requires { ⌜ length (now mem) ≡ bookWidth ⌝ }
     ensures { λ r. ⌜ Replays (restart (now (notes .entry))) r (now (mem .exit)) ⌝ }
@@ -219,7 +220,7 @@ fn replay(mem: &mut [u8; BOOK], notes: &[u8]) -> Restarted
 }
 
 // A restart into the lent book. The notes are replayed into an array of the call's own, and only the used slots are copied:
-// where a note is unlawful the book stays as it was, and a fill of a day before leaves no trace.
+// where a note is unlawful the book stays as it was, and a slot of a day before leaves no trace.
 pub fn restart(book: &mut [u8; BOOK], notes: &[u8]) -> Restarted
     ensures { λ r. ⌜ Restarts (now (book .entry)) (restart (now (notes .entry))) r (now (book .exit)) ⌝ }
 {

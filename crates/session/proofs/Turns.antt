@@ -1,8 +1,8 @@
 -- What a verdict says of the numbers.
 --     seq-read, facts-read, facts-read-in     the number that was read is 1 to 999,999,998, and 36's is at most 999,999,999
---     report-turn     a report about which the book is asked is in its turn and faultless
---     report-asked     of a faultless report in its turn the book is asked
---     judge-report, judge-asks     the same of a message by its pieces
+--     report-turn, correction-turn     a report and a correction about which the book is asked is in its turn and faultless
+--     turn-asked     a faultless message in its turn has its type's effect
+--     judge-report, judge-correction, judge-asks, judge-asks-correction     the same of a message by its pieces
 --     settled-numbers, own-numbers, rejected-numbers, passed-numbers     E and O are not lowered, and stay within nine digits
 use mathlib.Core.Path.{_≡_, refl, sym, ap, _∙_, subst}
 use mathlib.Core.List.{List}
@@ -12,7 +12,7 @@ use Prim.Native.Nat.{ℕ, _+_, _-_, _≤_}
 use native.Mathlib.Omega.{arith}
 use lib.Dec.{leb, ltb, eqb}
 use borrow.Author.Tests.{eq-eqb, eqb-true, ltb-true}
-use Rattle.octet.proofs.Cases.{of-cond, true-not-false}
+use Rattle.octet.proofs.Cases.{of-cond, true-not-false, or-right}
 use Rattle.value.specs.Readers.{numberRead}
 use Rattle.value.specs.declared.Number.{Number}
 use Rattle.value.specs.declared.Number.the-variants as number
@@ -44,7 +44,7 @@ use Rattle.session.specs.declared.Own.{Own}
 use Rattle.session.specs.declared.Session.{Session}
 use Rattle.session.specs.declared.Judged.{Judged}
 use Rattle.session.specs.declared.Verdict.{Verdict}
-use Rattle.session.specs.declared.Verdict.the-variants.{Settled, Report}
+use Rattle.session.specs.declared.Verdict.the-variants.{Settled, Report, Correction}
 
 -- ---- what is read is small
 
@@ -72,20 +72,21 @@ module _ (setup : Setup) (s : Session) where
   unfolding factsIn
   facts-read-in ps = facts-read (scanOf ps) (lookOf ps)
 
--- ---- a report
+-- ---- a report and a correction
 
--- a message that is a faultless report in its turn
-pub record Turn (s : Session) (m : Facts) (n : ℕ) : Type 0 where
+-- a message that is a faultless one of a type in its turn
+pub record Turn (s : Session) (m : Facts) (k : Kind) (n : ℕ) : Type 0 where
   pub seq : m .seq ≡ some n
   pub ids : m .ids ≡ none
   pub phase : inside (s .phase) ≡ true
   pub number : n ≡ s .e
-  pub kind : m .kind ≡ kind.Report
+  pub kind : m .kind ≡ k
   pub fault : m .fault ≡ none
 
 abbrev Says : Session → Facts → Verdict → Type 0
 Says s m (Settled j) = Unit {0}
-Says s m (Report n) = Turn s m n
+Says s m (Report n) = Turn s m kind.Report n
+Says s m (Correction n) = Turn s m kind.Correction n
 
 module _ (s : Session) (m : Facts) (n : ℕ) (seq : m .seq ≡ some n) (ids : m .ids ≡ none) (p : inside (s .phase) ≡ true) where
   effect-says : (k : Kind) → m .kind ≡ k → m .fault ≡ none → resetMode m || eqb n (s .e) ≡ true → Says s m (effect s n m k)
@@ -97,6 +98,7 @@ module _ (s : Session) (m : Facts) (n : ℕ) (seq : m .seq ≡ some n) (ids : m 
   effect-says kind.Reset e f t = tt
   effect-says kind.Logout e f t = tt
   effect-says kind.Report e f t = record { seq = seq; ids = ids; phase = p; number = eqb-true n (s .e) (rw e at t); kind = e; fault = f }
+  effect-says kind.Correction e f t = record { seq = seq; ids = ids; phase = p; number = eqb-true n (s .e) (rw e at t); kind = e; fault = f }
   effect-says kind.Other e f t = tt
   effect-says kind.Unlisted e f t = tt
 
@@ -125,9 +127,15 @@ seq-says : (s : Session) (m : Facts) (o : Option ℕ) → m .seq ≡ o → Says 
 seq-says s m none e = tt
 seq-says s m (some n) e = ids-says s m n e (m .ids) refl
 
-pub report-turn : (s : Session) (m : Facts) (n : ℕ) → judgedBy s m ≡ Report n → Turn s m n
+judged-says : (s : Session) (m : Facts) → Says s m (judgedBy s m)
 unfolding judgedBy
-report-turn s m n e = subst (Says s m) e (seq-says s m (m .seq) refl)
+judged-says s m = seq-says s m (m .seq) refl
+
+pub report-turn : (s : Session) (m : Facts) (n : ℕ) → judgedBy s m ≡ Report n → Turn s m kind.Report n
+report-turn s m n e = subst (Says s m) e (judged-says s m)
+
+pub correction-turn : (s : Session) (m : Facts) (n : ℕ) → judgedBy s m ≡ Correction n → Turn s m kind.Correction n
+correction-turn s m n e = subst (Says s m) e (judged-says s m)
 
 by-inside : (p : Phase) (s : Session) (n : ℕ) (m : Facts) → inside p ≡ true → byPhase p s n m ≡ step4 s n m
 unfolding byPhase
@@ -137,13 +145,14 @@ by-inside phase.In s n m e = refl
 by-inside phase.Ended s n m e = true-not-false (sym e)
 by-inside phase.Closing s n m e = refl
 
-turn-step4 : (s : Session) (m : Facts) (n : ℕ) → Turn s m n → step4 s n m ≡ Report n
-unfolding step4 inTurn effect
-turn-step4 s m n t = rw (t .kind, t .fault, eq-eqb n (s .e) (t .number))
+turn-step4 : (s : Session) (m : Facts) (k : Kind) (n : ℕ) → Turn s m k n → step4 s n m ≡ effect s n m k
+unfolding step4 inTurn
+turn-step4 s m k n t = rw (or-right (resetMode m) (eqb n (s .e)) (eq-eqb n (s .e) (t .number)), t .fault, t .kind)
 
-pub report-asked : (s : Session) (m : Facts) (n : ℕ) → Turn s m n → judgedBy s m ≡ Report n
+-- it has its type's effect
+turn-asked : (s : Session) (m : Facts) (k : Kind) (n : ℕ) → Turn s m k n → judgedBy s m ≡ effect s n m k
 unfolding judgedBy
-report-asked s m n t = ap (step1 s m) (t .seq) ∙ ap (step2 s n m) (t .ids) ∙ by-inside (s .phase) s n m (t .phase) ∙ turn-step4 s m n t
+turn-asked s m k n t = ap (step1 s m) (t .seq) ∙ ap (step2 s n m) (t .ids) ∙ by-inside (s .phase) s n m (t .phase) ∙ turn-step4 s m k n t
 
 -- ---- E and O
 
@@ -197,6 +206,7 @@ module _ (s : Session) (o-small : s .o ≤ 999999997) where
 abbrev Goes : Session → Verdict → Type 0
 Goes s (Settled j) = Settles s j
 Goes s (Report n) = Unit {0}
+Goes s (Correction n) = Unit {0}
 
 module _ (s : Session) (o-small : s .o ≤ 999999997) (e-small : s .e ≤ 999999999) where
   -- E stays
@@ -239,6 +249,7 @@ module _ (s : Session) (o-small : s .o ≤ 999999997) (e-small : s .e ≤ 999999
         let l = h (rw e) in
         settles s o-small outcome.Ended (cond (isIn (s .phase)) (One say.Logout) Nothing) (into phase.Ended (raised s)) refl (omega arith) (omega arith)
     effect-goes kind.Report e h = tt
+    effect-goes kind.Correction e h = tt
     effect-goes kind.Other e h = passed-numbers s o-small (h (rw e)) outcome.Heard
     effect-goes kind.Unlisted e h = passed-numbers s o-small (h (rw e)) outcome.Heard
 
@@ -299,13 +310,13 @@ module _ (s : Session) (o-small : s .o ≤ 999999997) (e-small : s .e ≤ 999999
 
 -- ---- by the pieces of a message
 module _ (setup : Setup) (s : Session) (ps : Pieces) where
-  -- a faultless report in its turn
-  pub record ReportIn (n : ℕ) : Type 0 where
+  -- a faultless message of a type in its turn
+  pub record TurnIn (k : Kind) (n : ℕ) : Type 0 where
     pub seq : seqGiven (firstOf 34 ps) ≡ some n
     pub ids : idsGiven setup (firstOf 49 ps) (firstOf 56 ps) ≡ none
     pub phase : inside (s .phase) ≡ true
     pub number : n ≡ s .e
-    pub kind : kindIn setup ps ≡ kind.Report
+    pub kind : kindIn setup ps ≡ k
     pub fault : faultIn setup (s .phase) (s .o) ps ≡ none
     pub least : 1 ≤ n
     pub most : n ≤ 999999998
@@ -317,19 +328,37 @@ module _ (setup : Setup) (s : Session) (ps : Pieces) where
   ids-first =
       ap (λ (o : Option (List ℕ)). idsGiven setup o (first (lookOf ps) 56)) (first-of ps 49) ∙ ap (idsGiven setup (firstOf 49 ps)) (first-of ps 56)
 
-  pub judge-report : (n : ℕ) → judge setup s ps ≡ Report n → ReportIn n
-  unfolding judge factsIn factsOf faultIn
-  judge-report n e =
-      let t = report-turn s (factsIn setup s ps) n e in
+  turn-in : (k : Kind) (n : ℕ) → Turn s (factsIn setup s ps) k n → TurnIn k n
+  unfolding factsIn factsOf faultIn
+  turn-in k n t =
       let q = sym seq-first ∙ t .seq in
       let l = seq-read (firstOf 34 ps) n q in
       record { seq = q; ids = sym ids-first ∙ t .ids; phase = t .phase; number = t .number; kind = t .kind; fault = t .fault; least = l .0; most = l .1 }
 
+  pub judge-report : (n : ℕ) → judge setup s ps ≡ Report n → TurnIn kind.Report n
+  unfolding judge
+  judge-report n e = turn-in kind.Report n (report-turn s (factsIn setup s ps) n e)
+
+  pub judge-correction : (n : ℕ) → judge setup s ps ≡ Correction n → TurnIn kind.Correction n
+  unfolding judge
+  judge-correction n e = turn-in kind.Correction n (correction-turn s (factsIn setup s ps) n e)
+
+  -- and such a message has its type's effect
+  turn-judged : (k : Kind) (n : ℕ) → seqGiven (firstOf 34 ps) ≡ some n → idsGiven setup (firstOf 49 ps) (firstOf 56 ps) ≡ none → inside (s .phase) ≡ true → n ≡ s .e
+      → kindIn setup ps ≡ k → faultIn setup (s .phase) (s .o) ps ≡ none → judge setup s ps ≡ effect s n (factsIn setup s ps) k
+  unfolding judge factsIn factsOf faultIn
+  turn-judged k n seq ids p e l f =
+      turn-asked s (factsIn setup s ps) k n (record { seq = seq-first ∙ seq; ids = ids-first ∙ ids; phase = p; number = e; kind = l; fault = f })
+
   pub judge-asks : (n : ℕ) → seqGiven (firstOf 34 ps) ≡ some n → idsGiven setup (firstOf 49 ps) (firstOf 56 ps) ≡ none → inside (s .phase) ≡ true → n ≡ s .e
       → kindIn setup ps ≡ kind.Report → faultIn setup (s .phase) (s .o) ps ≡ none → judge setup s ps ≡ Report n
-  unfolding judge factsIn factsOf faultIn
-  judge-asks n seq ids p e k f =
-      report-asked s (factsIn setup s ps) n (record { seq = seq-first ∙ seq; ids = ids-first ∙ ids; phase = p; number = e; kind = k; fault = f })
+  unfolding effect
+  judge-asks = turn-judged kind.Report
+
+  pub judge-asks-correction : (n : ℕ) → seqGiven (firstOf 34 ps) ≡ some n → idsGiven setup (firstOf 49 ps) (firstOf 56 ps) ≡ none → inside (s .phase) ≡ true → n ≡ s .e
+      → kindIn setup ps ≡ kind.Correction → faultIn setup (s .phase) (s .o) ps ≡ none → judge setup s ps ≡ Correction n
+  unfolding effect
+  judge-asks-correction = turn-judged kind.Correction
 
   -- what is settled, in a call that refusal 4 does not refuse
   pub judge-settles : s .o ≤ 999999997 → s .e ≤ 999999999 → (j : Judged) → judge setup s ps ≡ Settled j → Settles s j

@@ -30,7 +30,7 @@ use Rattle.session.specs.Reading.{Facts, factsIn}
 use Rattle.session.specs.declared.Session.{Session}
 use Rattle.session.specs.declared.Judged.{Judged}
 use Rattle.session.specs.declared.Verdict.{Verdict}
-use Rattle.session.specs.declared.Verdict.the-variants.{Settled, Report}
+use Rattle.session.specs.declared.Verdict.the-variants.{Settled, Report, Correction}
 
 -- ---- "Else Logout, ended"; "Else Reject 9 naming that tag, then Logout, ended"
 
@@ -100,7 +100,7 @@ moved to reset s n =
 unfoldable pub loggedOut : Session → Judged
 loggedOut s = judged Ended (cond (isIn (s .phase)) (One say.Logout) Nothing) (into phase.Ended (raised s))
 
--- the table's column "Effect". Of a report the book is to be asked; a Logon and an unlisted type were rejected before
+-- the table's column "Effect". Of a report and of a correction the book is to be asked; a Logon and an unlisted type were rejected before
 unfoldable pub effect : Session → ℕ → Facts → Kind → Verdict
 effect s n m kind.Logon = Settled (heard s)
 effect s n m kind.Heartbeat = Settled (heard s)
@@ -109,6 +109,7 @@ effect s n m kind.Resend = Settled (judged Filled (One (gapFill s m)) (raised s)
 effect s n m kind.Reset = Settled (moved (m .to) (resetMode m) s n)
 effect s n m kind.Logout = Settled (loggedOut s)
 effect s n m kind.Report = Report n
+effect s n m kind.Correction = Correction n
 effect s n m kind.Other = Settled (heard s)
 effect s n m kind.Unlisted = Settled (heard s)
 

@@ -37,8 +37,9 @@ fn kind_number(k: Kind) -> u32
         Kind::Reset => 4,
         Kind::Logout => 5,
         Kind::Report => 6,
-        Kind::Other => 7,
-        Kind::Unlisted => 8,
+        Kind::Correction => 7,
+        Kind::Other => 8,
+        Kind::Unlisted => 9,
     }
 }
 
@@ -300,6 +301,7 @@ impl Session {
             Kind::Reset => self.reset(n, m),
             Kind::Logout => self.logged_out(),
             Kind::Report => Verdict::Report(n),
+            Kind::Correction => Verdict::Correction(n),
             Kind::Other => self.heard(),
             Kind::Unlisted => self.heard(),
         }

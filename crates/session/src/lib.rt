@@ -35,10 +35,11 @@ pub struct Judged {
     pub reply: Reply,
 }
 
-// What judging answers: a message that is settled, or a faultless report in its turn, with its number, about which the book is to be asked.
+// What judging answers: a message that is settled; or a faultless report or correction in its turn, with its number, about which the book is to be asked.
 pub enum Verdict {
     Settled(Judged),
     Report(u32),
+    Correction(u32),
 }
 
 // What the steps read off a message: its type, its number (0 where it has none), which ID is not the agreed one, what is wrong by steps 5 to 7,

@@ -21,7 +21,7 @@ only (b ∷ []) e = refl
 only (b ∷ x ∷ t) e = absurd (omega arith)
 
 module _ (setup : Setup) where
-  pub kind-ucc : (t : List ℕ) → is "UCC" t ≡ true → kindOf setup t ≡ kind.Other
+  pub kind-ucc : (t : List ℕ) → is "UCC" t ≡ true → kindOf setup t ≡ kind.Correction
   unfolding kindOf
   kind-ucc t e = ap (kindOf setup) (sym (same-true (bytesOf "UCC") t e))
 
@@ -30,7 +30,7 @@ module _ (setup : Setup) where
   unfolding kindOf
   kind-long t e h =
       let n : (b : ℕ) → same (b ∷ []) t ≡ false = λ b. length-differs (b ∷ []) t (λ p. h (sym p)) in
-      rw (n 65, n 48, n 49, n 50, n 52, n 53, n 56, n 51, n 106, e)
+      rw (n 65, n 48, n 49, n 50, n 52, n 53, n 56, e, n 51, n 106)
 
   pub kind-one : (t : List ℕ) → length t ≡ 1 → kindOf setup t ≡ kindOf setup (getD t 0 0 ∷ [])
   kind-one t h = ap (kindOf setup) (only t h)

@@ -9,9 +9,9 @@ use answer::Kind;
 use answer::Setup;
 ghost use mathlib.Core.Path.{_≡_};
 ghost use lib.ListN.{length};
-ghost use Rattle.table.specs.Rows.{headerRows, reportRows, rowsOf, tableOf, cellOf, kindOf};
+ghost use Rattle.table.specs.Rows.{headerRows, reportRows, correctionRows, rowsOf, tableOf, cellOf, kindOf};
 
-// A row of the header and of a report is a constant of its own, so that one is laid out where one is asked for.
+// A row of the header, of a report and of a correction is a constant of its own, so that one is laid out where one is asked for.
 
 // "all: 52 UTC time; optional 43, 97: Y or N".
 const SENT: Row = Row::Needs(52, Form::Time, Where::Always);
@@ -52,6 +52,27 @@ const TIME: Row = Row::Needs(60, Form::Time, Where::Always);
 const MULTI_LEG: Row = Row::May(442, Form::Code(Codes::Legs), Where::Always);
 
 const REPORT_ROWS: usize = 14;
+
+// UCC, source document 003, section 5.2, in its order: the rows that a report has too are the report's own constants.
+const TRANSACTIONS: Row = Row::Needs(20, Form::Code(Codes::Transactions), Where::Always);
+
+const CORRECTION_TYPE: Row = Row::Needs(9020, Form::Code(Codes::Corrections), Where::Always);
+
+const TRADE_ID: Row = Row::Needs(1003, Form::Graph(Range::Of(1, 20)), Where::Always);
+
+const CORRECTION_NUM: Row = Row::Needs(
+    9021,
+    Form::Number(Range::Of(0, 999_999_999)),
+    Where::Always,
+);
+
+const CLIENT_ORDER: Row = Row::Needs(11, Form::Graph(Range::Of(1, 30)), Where::Always);
+
+const ORIGINAL_TIME: Row = Row::Needs(42, Form::Time, Where::Always);
+
+const SECURITY: Row = Row::Needs(167, Form::Security, Where::Always);
+
+const CORRECTION_ROWS: usize = 14;
 
 // A: "98 is 0; 108 is 0 to 3,600; optional 141 is N".
 const LOGON: [Row; 3] = [
@@ -113,6 +134,29 @@ fn report_row(i: usize) -> Cell
     }
 }
 
+// The row at a place of a correction's.
+fn correction_row(i: usize) -> Cell
+    ensures { λ r. ⌜ r ≡ cellOf correctionRows i ⌝ }
+{
+    match i {
+        0 => Cell::Here(TRANSACTIONS),
+        1 => Cell::Here(CORRECTION_TYPE),
+        2 => Cell::Here(EXEC_ID),
+        3 => Cell::Here(TRADE_ID),
+        4 => Cell::Here(CORRECTION_NUM),
+        5 => Cell::Here(ORDER_ID),
+        6 => Cell::Here(CLIENT_ORDER),
+        7 => Cell::Here(ORIGINAL_TIME),
+        8 => Cell::Here(TIME),
+        9 => Cell::Here(SECURITY),
+        10 => Cell::Here(SYMBOL),
+        11 => Cell::Here(SIDE),
+        12 => Cell::Here(LAST_PRICE),
+        13 => Cell::Here(LAST_SHARES),
+        _ => Cell::End,
+    }
+}
+
 // How many rows a type has of its own.
 fn own_rows(kind: Kind) -> usize
     ensures { λ r. ⌜ r ≡ length (rowsOf kind) ⌝ }
@@ -125,6 +169,7 @@ fn own_rows(kind: Kind) -> usize
         Kind::Reset => RESET.len(),
         Kind::Logout => 0,
         Kind::Report => REPORT_ROWS,
+        Kind::Correction => CORRECTION_ROWS,
         Kind::Other => 0,
         Kind::Unlisted => 0,
     }
@@ -145,6 +190,7 @@ fn own_row(kind: Kind, i: usize) -> Cell
         Kind::Reset => Cell::Here(RESET[i]),
         Kind::Logout => Cell::End,
         Kind::Report => report_row(i),
+        Kind::Correction => correction_row(i),
         Kind::Other => Cell::End,
         Kind::Unlisted => Cell::End,
     }
@@ -165,7 +211,7 @@ pub fn kind_of(setup: Setup, t: &[u8]) -> Kind
     ensures { λ r. ⌜ r ≡ kindOf setup (now (t .entry)) ⌝ }
 {
     if octet::same(b"UCC", t) {
-        return Kind::Other;
+        return Kind::Correction;
     }
     if t.len() != 1 {
         return Kind::Unlisted;

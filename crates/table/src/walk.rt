@@ -31,7 +31,7 @@ ghost use Rattle.answer.specs.Numbers.{nineDigits};
 ghost use Rattle.field.specs.Look.{lookIn};
 ghost use Rattle.table.specs.declared.Form.the-variants as form;
 ghost use Rattle.table.specs.Rows.{codesOf, tableOf};
-ghost use Rattle.table.specs.Steps.{numberOf, inRange, valueCheck, tagFault, applies, askedBy, rowFault, walk, found};
+ghost use Rattle.table.specs.Steps.{numberOf, isSecurity, inRange, valueCheck, tagFault, applies, askedBy, rowFault, walk, found};
 
 // The number of a tag.
 pub fn number_at(body: &[u8], index: &Index, tag: u32) -> u32
@@ -118,7 +118,19 @@ fn check_code(codes: Codes, v: &[u8]) -> Check
         Codes::Side => value::read_code(v, b"12"),
         Codes::Filled => value::read_code(v, b"12"),
         Codes::Legs => value::read_code(v, b"23"),
+        Codes::Transactions => value::read_code(v, b"012"),
+        Codes::Corrections => value::read_code(v, b"12345"),
     }
+}
+
+// 167: "OPT" or "MLEG".
+fn is_security(v: &[u8]) -> bool
+    ensures { λ r. ⌜ r ≡ isSecurity (now (v .entry)) ⌝ }
+{
+    if octet::same(b"OPT", v) {
+        return true;
+    }
+    octet::same(b"MLEG", v)
 }
 
 // Whether a value is of a form and in its range.
@@ -132,6 +144,7 @@ fn check_value(body: &[u8], index: &Index, given: Given, form: Form, v: &[u8]) -
         Form::Text(range) => fitted(is_in_range(body, index, given, range, v.len())),
         Form::Graph(range) => check_graph(body, index, given, range, v),
         Form::Code(codes) => check_code(codes, v),
+        Form::Security => fitted(is_security(v)),
     }
 }
 

@@ -26,9 +26,10 @@ oneRejected t = record { booked = t .booked; already = t .already; rejected = up
 abbrev pub oneGarbled : Tally → Tally
 oneGarbled t = record { booked = t .booked; already = t .already; rejected = t .rejected; garbled = up (t .garbled) }
 
--- which count a framed message raises, by what became of it: "rejected (a Reject written)", whether or not the session goes on
+-- which count a framed message raises, by what became of it: "rejected (a Reject written)", whether or not the session goes on. A correction that is entered is booked
 abbrev pub countOf : Outcome → Which
 countOf (outcome.Booked n step) = Booked
+countOf (outcome.Entered n) = Booked
 countOf outcome.Already = Already
 countOf (outcome.Rejected f) = Rejected
 countOf (outcome.RejectedEnded f) = Rejected

@@ -115,6 +115,7 @@ pub fn count_of(outcome: Outcome) -> Which
 {
     match outcome {
         Outcome::Booked(_, _) => Which::Booked,
+        Outcome::Entered(_) => Which::Booked,
         Outcome::Already => Which::Already,
         Outcome::Rejected(_) => Which::Rejected,
         Outcome::RejectedEnded(_) => Which::Rejected,

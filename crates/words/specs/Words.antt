@@ -44,6 +44,7 @@ outcomeText (outcome.Moved n) = numberAfter (bytesOf "reset ") n
 outcomeText outcome.Aside = bytesOf "heard"
 outcomeText outcome.Already = bytesOf "already"
 outcomeText (outcome.Booked n stepped) = bookedText n stepped
+outcomeText (outcome.Entered n) = numberAfter (bytesOf "entered ") n
 
 -- the column "No.", and the values of the row
 abbrev pub refusalText : Refusal → List ℕ

@@ -60,6 +60,7 @@ pub fn say_outcome(t: Text, outcome: Outcome) -> Text
         Outcome::Aside => say(t, b"heard"),
         Outcome::Already => say(t, b"already"),
         Outcome::Booked(n, in_step) => say_booked(t, n, in_step),
+        Outcome::Entered(n) => say_number(t, b"entered ", n as u64),
     }
 }
 

@@ -20,6 +20,12 @@ returns-2 c =
     let o = f .before .before .before .before .before in
     ap verdictNumber (judged-body (now (o .before .before .before .before .before .args .body)) (o .before .agreed .ensures) (ap (λ (x : Stored). x .session) (o .online .ensures)) (f .before .before .index-into .ensures) (f .findings-of .ensures) (sym (c .enum-told .given .1) ∙ c .before .before .judge .ensures))
 
+returns-3 : tie.Need-returns-3
+returns-3 c =
+    let f = c .before .before .before in
+    let o = f .before .before .before .before .before in
+    ap verdictNumber (judged-body (now (o .before .before .before .before .before .args .body)) (o .before .agreed .ensures) (ap (λ (x : Stored). x .session) (o .online .ensures)) (f .before .before .index-into .ensures) (f .findings-of .ensures) (sym (c .enum-told2 .given .1) ∙ c .before .before .judge .ensures))
+
 pub bench-judge-spec : {M : Type 1} → statement M
 bench-judge-spec =
     tie.close
@@ -32,5 +38,7 @@ bench-judge-spec =
     (λ c. search needs)
     (λ c κs. search needs)
     (λ c. search needs)
+    (λ c. search needs)
     returns
-    returns-2)
+    returns-2
+    returns-3)

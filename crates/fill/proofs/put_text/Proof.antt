@@ -1,6 +1,6 @@
 use native.Mathlib.Omega.{arith}
 use denote.Ref.{now}
-use Rattle.fill.proofs.Fields.{text-put}
+use Rattle.fill.proofs.Made.{text-put}
 use borrow.Author.Needs.{needs}
 use Rattle.fill.proofs.put_text.Statement.{statement}
 use Rattle.fill.proofs.put_text.Tie as tie

@@ -1,7 +1,7 @@
 use Rattle.fill.specs.Slot.{placeOf}
 use mathlib.Core.Path.{sym, _∙_}
 use denote.Ref.{now}
-use Rattle.fill.proofs.Fields.{byte-number}
+use Rattle.fill.proofs.Made.{byte-number}
 use borrow.Author.Needs.{needs}
 use Rattle.fill.proofs.side_of.Statement.{statement}
 use Rattle.fill.proofs.side_of.Tie as tie

@@ -6,7 +6,7 @@ use Prim.Native.Nat.{ℕ}
 use lib.ListN.{replicate}
 use Rattle.octet.specs.Bytes.{bytesOf}
 use Rattle.octet.specs.Splice.{splice}
-use Rattle.fill.proofs.Fields.{time-seventeen, time-other}
+use Rattle.fill.proofs.Made.{time-seventeen, time-other}
 use borrow.Author.Needs.{needs}
 use Rattle.fill.proofs.time_field.Statement.{statement}
 use Rattle.fill.proofs.time_field.Tie as tie

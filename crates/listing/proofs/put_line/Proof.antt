@@ -6,7 +6,7 @@ use lib.ListN.{replicate}
 use denote.Ref.{now}
 use Rattle.octet.specs.Bytes.{part}
 use Rattle.octet.specs.Splice.{splice}
-use Rattle.fill.specs.Slot.{lineOf}
+use Rattle.fill.specs.Booked.{lineOf}
 use Rattle.listing.proofs.Pages.{written-back, line-length}
 use Rattle.listing.proofs.put_line.Statement.{statement}
 use Rattle.listing.proofs.put_line.Tie as tie

@@ -1,12 +1,13 @@
 -- `note::lay` meets its contract: a slot's own parts stay as they are.
-use mathlib.Core.Path.{sym, ap, ap₂, _∙_}
+use mathlib.Core.Path.{sym, ap, _∙_}
 use mathlib.Core.List.{List}
 use Prim.Native.Nat.{ℕ}
+use native.Mathlib.Omega.{arith}
 use denote.Ref.{now}
+use lib.ListN.{take}
 use Rattle.octet.specs.Splice.{splice}
 use Rattle.parts.specs.Relaid.{relaid}
 use Rattle.parts.proofs.Relaying.{relaid-same, relays-writes}
-use Rattle.fill.specs.Slot.{widths}
 use borrow.Author.Needs.{needs}
 use Rattle.note.proofs.lay.Statement.{statement}
 use Rattle.note.proofs.lay.Tie as tie
@@ -21,8 +22,13 @@ returns c =
     let copy-into = c .before .before .copy-into in
     let both = pre .0 (if1 .taken) in
     let x = now (a .src) in
+    let to = now (a .to) in
     copy-into .ensures .1
-    ∙ ap (splice (now (a .dst)) (a .at)) (part .ensures ∙ sym (relaid-same widths x (if2 .taken)) ∙ ap₂ (λ (from to : List ℕ). relaid from to x) (sym (both .0)) (sym (both .1)))
+    ∙ ap (splice (now (a .dst)) (a .at))
+    (part .ensures
+    ∙ ap (λ (n : ℕ). take n x) (sym (both .1))
+    ∙ sym (relaid-same to x (omega (arith, both .1, if2 .taken)))
+    ∙ ap (λ (from : List ℕ). relaid from to x) (sym (both .0)))
 
 returns-2 : tie.Need-returns-2
 returns-2 c =

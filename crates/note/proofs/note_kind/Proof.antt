@@ -23,10 +23,14 @@ returns-4 c = sym (ap noteKind (c .match .keys4))
 
 returns-5 : tie.Need-returns-5
 unfolding noteKind
-returns-5 c =
+returns-5 c = sym (ap noteKind (c .match .keys5))
+
+returns-6 : tie.Need-returns-6
+unfolding noteKind
+returns-6 c =
     let k = c .before .args .byte in
     let r = c .match .rest in
-    rw (ne-eqb k 83 (r .0 .0 .0 .1), ne-eqb k 70 (r .0 .0 .1), ne-eqb k 75 (r .0 .1), ne-eqb k 68 (r .1))
+    rw (ne-eqb k 83 (r .0 .0 .0 .0 .1), ne-eqb k 70 (r .0 .0 .0 .1), ne-eqb k 75 (r .0 .0 .1), ne-eqb k 68 (r .0 .1), ne-eqb k 67 (r .1))
 
 pub note-kind-spec : {M : Type 1} → statement M
-note-kind-spec = tie.close (tie.spec returns returns-2 returns-3 returns-4 returns-5)
+note-kind-spec = tie.close (tie.spec returns returns-2 returns-3 returns-4 returns-5 returns-6)

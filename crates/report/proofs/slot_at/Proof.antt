@@ -18,7 +18,7 @@ returns c =
     let a = exec .before .before .args in
     slot-read (lookIn (a .body .now) (a .index .now))
     (c .slot-with .ensures)
-    (exec .value-at .ensures) (order .value-at2 .ensures) (symbol .value-at3 .ensures) (side .side-at .ensures)
+    (exec .value-at .ensures) (order .value-at2 .ensures) (symbol .value-at3 .ensures) (side .code-at .ensures)
     (quantity .number-at .ensures .0) (shares .number-at2 .ensures .0) (price .price-at .ensures) (cum .number-at3 .ensures .0) (time .value-at4 .ensures)
 
 pub slot-at-spec : {M : Type 1} → statement M

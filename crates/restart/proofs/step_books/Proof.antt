@@ -1,18 +1,17 @@
--- `restart::step_books` meets its contract: a lawful F note books its slot after the last one.
+-- `restart::step_books` meets its contract: a lawful F or C note books its slot after the last one.
 use borrow.Author.Needs.{needs}
-use mathlib.Core.Path.{_≡_, refl, sym, ap, _∙_}
+use mathlib.Core.Path.{refl, sym, ap, _∙_}
 use Prim.Native.Nat.{ℕ}
 use native.Mathlib.Omega.{arith}
 use borrow.Author.Tests.{not-true, not-false}
 use denote.Ref.{now}
 use Rattle.book.specs.Memory.{slotsIn, appended}
 use Rattle.book.specs.Place.{isNew}
-use Rattle.book.specs.Admitting.{admitOf}
 use Rattle.book.specs.declared.Booking.{Booking}
 use Rattle.book.proofs.Placing.{admitted-clash, admitted-already, admitted-full, admitted-new}
 use Rattle.note.specs.Notes.{Books}
 use Rattle.restart.specs.Steps.{keptIn}
-use Rattle.restart.proofs.Stepping.{bookable-by, books-out, books-next, step-no, step-yes, on-books, mem-no, mem-yes, last-few, fills-fit, orders-fit}
+use Rattle.restart.proofs.Stepping.{admits, bookable-by, books-out, books-next, step-no, step-yes, on-books, mem-no, mem-yes, last-few, load-fits}
 use Rattle.restart.proofs.step_books.Statement.{statement}
 use Rattle.restart.proofs.step_books.Tie as tie
 
@@ -28,89 +27,113 @@ returns c =
 -- not a lawful slot
 returns-2 : tie.Need-returns-2
 returns-2 c =
-    let a = c .before .before .before .before .before .before .args in
+    let next = c .before .before in
+    let a = next .before .before .before .before .args in
     let m = now (a .mem) in
     let s = now (a .slot) in
-    let next = sym (c .before .before .before .is-next .ensures) ∙ not-false _ (c .before .before .if1 .left) in
-    let t = books-next (a .m) m (a .e) (a .o) s next (bookable-by (slotsIn (a .m .last) m) (a .m .fills) (a .m .orders) s (sym (c .before .is-lawful .ensures) ∙ not-true _ (c .if2 .taken)) refl refl) in
+    let isnt = sym (c .before .is-lawful .ensures) ∙ not-true _ (c .if2 .taken) in
+    let is = sym (next .before .is-next .ensures) ∙ not-false _ (next .if1 .left) in
+    let t = books-next (a .m) m (a .e) (a .o) s is (bookable-by (slotsIn (a .m .last) m) (a .m .load) s isnt refl refl) in
     (step-no (keptIn (a .m) m) (Books (a .e) (a .o) s) t, mem-no m (keptIn (a .m) m) (a .e) (a .o) s t)
 
 -- new: there is a number for it
-add-t15 : tie.Need-add-t15
-add-t15 c =
-    let a = c .before .before .before .before .before .before .before .before .before .before .before .before .before .before .args in
+add-t17 : tie.Need-add-t17
+add-t17 c =
+    let booking = c .before .before .before .before .before in
+    let admit = booking .before .before in
+    let left = admit .before .before .before in
+    let step = left .before .before in
+    let far = step .before .before in
+    let a = far .before .before .args in
     let m = now (a .mem) in
     let s = now (a .slot) in
     let ss = slotsIn (a .m .last) m in
-    let next = sym (c .before .before .before .before .before .before .before .before .before .before .before .is-next .ensures) ∙ not-false _ (c .before .before .before .before .before .before .before .before .before .before .if1 .left) in
-    let good = sym (c .before .before .before .before .before .before .before .before .before .is-lawful .ensures) ∙ not-false _ (c .before .before .before .before .before .before .before .before .if2 .left) in
-    let w = c .before .before .before .before .before .before .before .before .before .before .before .before .wide .ensures .0 in
-    let r : admitOf ss (a .m .fills) (a .m .orders) s ≡ c .before .before .before .before .before .before .admit .result = ap (λ (k : ℕ). admitOf (slotsIn k m) (a .m .fills) (a .m .orders) s) (sym w) ∙ sym (c .before .before .before .before .before .before .admit .ensures) in
-    let b = admitted-new ss (a .m .fills) (a .m .orders) s (r ∙ c .before .before .before .before .booking .given .1) in
-    let t = books-next (a .m) m (a .e) (a .o) s next (bookable-by ss (a .m .fills) (a .m .orders) s good (ap isNew (b .0)) (b .1)) in
+    let next = sym (step .before .is-next .ensures) ∙ not-false _ (step .if1 .left) in
+    let good = sym (left .before .is-lawful .ensures) ∙ not-false _ (left .if2 .left) in
+    let w = far .wide .ensures .0 in
+    let r = admits (a .m) m s _ _ w (admit .admit .ensures) in
+    let b = admitted-new ss (a .m .load) s (r ∙ booking .booking .given .1) in
+    let t = books-next (a .m) m (a .e) (a .o) s next (bookable-by ss (a .m .load) s good (ap isNew (b .0)) (b .1)) in
     omega (arith, last-few (a .m) m (a .e) (a .o) s t)
 
--- at odds with a fill
+-- at odds with a slot
 returns-3 : tie.Need-returns-3
 returns-3 c =
-    let a = c .before .before .before .before .before .before .before .before .before .before .args in
+    let admit = c .before .before in
+    let left = admit .before .before .before in
+    let step = left .before .before in
+    let far = step .before .before in
+    let a = far .before .before .args in
     let m = now (a .mem) in
     let s = now (a .slot) in
     let ss = slotsIn (a .m .last) m in
-    let next = sym (c .before .before .before .before .before .before .before .is-next .ensures) ∙ not-false _ (c .before .before .before .before .before .before .if1 .left) in
-    let good = sym (c .before .before .before .before .before .is-lawful .ensures) ∙ not-false _ (c .before .before .before .before .if2 .left) in
-    let w = c .before .before .before .before .before .before .before .before .wide .ensures .0 in
-    let r : admitOf ss (a .m .fills) (a .m .orders) s ≡ c .before .before .admit .result = ap (λ (k : ℕ). admitOf (slotsIn k m) (a .m .fills) (a .m .orders) s) (sym w) ∙ sym (c .before .before .admit .ensures) in
-    let n = ap isNew (admitted-clash ss (a .m .fills) (a .m .orders) s (r ∙ c .enum-told .given .1)) in
-    let t = books-next (a .m) m (a .e) (a .o) s next (bookable-by ss (a .m .fills) (a .m .orders) s good n refl) in
+    let next = sym (step .before .is-next .ensures) ∙ not-false _ (step .if1 .left) in
+    let good = sym (left .before .is-lawful .ensures) ∙ not-false _ (left .if2 .left) in
+    let w = far .wide .ensures .0 in
+    let r = admits (a .m) m s _ _ w (admit .admit .ensures) in
+    let f = admitted-clash ss (a .m .load) s (r ∙ c .enum-told .given .1) in
+    let t = books-next (a .m) m (a .e) (a .o) s next (bookable-by ss (a .m .load) s good (ap isNew f) refl) in
     (step-no (keptIn (a .m) m) (Books (a .e) (a .o) s) t, mem-no m (keptIn (a .m) m) (a .e) (a .o) s t)
 
 -- already booked
 returns-4 : tie.Need-returns-4
 returns-4 c =
-    let a = c .before .before .before .before .before .before .before .before .before .before .args in
+    let admit = c .before .before in
+    let left = admit .before .before .before in
+    let step = left .before .before in
+    let far = step .before .before in
+    let a = far .before .before .args in
     let m = now (a .mem) in
     let s = now (a .slot) in
     let ss = slotsIn (a .m .last) m in
-    let next = sym (c .before .before .before .before .before .before .before .is-next .ensures) ∙ not-false _ (c .before .before .before .before .before .before .if1 .left) in
-    let good = sym (c .before .before .before .before .before .is-lawful .ensures) ∙ not-false _ (c .before .before .before .before .if2 .left) in
-    let w = c .before .before .before .before .before .before .before .before .wide .ensures .0 in
-    let r : admitOf ss (a .m .fills) (a .m .orders) s ≡ c .before .before .admit .result = ap (λ (k : ℕ). admitOf (slotsIn k m) (a .m .fills) (a .m .orders) s) (sym w) ∙ sym (c .before .before .admit .ensures) in
-    let n = ap isNew (admitted-already ss (a .m .fills) (a .m .orders) s (r ∙ c .enum-told2 .given .1)) in
-    let t = books-next (a .m) m (a .e) (a .o) s next (bookable-by ss (a .m .fills) (a .m .orders) s good n refl) in
+    let next = sym (step .before .is-next .ensures) ∙ not-false _ (step .if1 .left) in
+    let good = sym (left .before .is-lawful .ensures) ∙ not-false _ (left .if2 .left) in
+    let w = far .wide .ensures .0 in
+    let r = admits (a .m) m s _ _ w (admit .admit .ensures) in
+    let f = admitted-already ss (a .m .load) s (r ∙ c .enum-told2 .given .1) in
+    let t = books-next (a .m) m (a .e) (a .o) s next (bookable-by ss (a .m .load) s good (ap isNew f) refl) in
     (step-no (keptIn (a .m) m) (Books (a .e) (a .o) s) t, mem-no m (keptIn (a .m) m) (a .e) (a .o) s t)
 
 -- no room
 returns-5 : tie.Need-returns-5
 returns-5 c =
-    let a = c .before .before .before .before .before .before .before .before .before .before .args in
+    let admit = c .before .before in
+    let left = admit .before .before .before in
+    let step = left .before .before in
+    let far = step .before .before in
+    let a = far .before .before .args in
     let m = now (a .mem) in
     let s = now (a .slot) in
     let ss = slotsIn (a .m .last) m in
-    let next = sym (c .before .before .before .before .before .before .before .is-next .ensures) ∙ not-false _ (c .before .before .before .before .before .before .if1 .left) in
-    let good = sym (c .before .before .before .before .before .is-lawful .ensures) ∙ not-false _ (c .before .before .before .before .if2 .left) in
-    let w = c .before .before .before .before .before .before .before .before .wide .ensures .0 in
-    let r : admitOf ss (a .m .fills) (a .m .orders) s ≡ c .before .before .admit .result = ap (λ (k : ℕ). admitOf (slotsIn k m) (a .m .fills) (a .m .orders) s) (sym w) ∙ sym (c .before .before .admit .ensures) in
-    let f = admitted-full ss (a .m .fills) (a .m .orders) s (r ∙ c .enum-told3 .given .1) in
-    let t = books-next (a .m) m (a .e) (a .o) s next (bookable-by ss (a .m .fills) (a .m .orders) s good (ap isNew (f .0)) (f .1)) in
+    let next = sym (step .before .is-next .ensures) ∙ not-false _ (step .if1 .left) in
+    let good = sym (left .before .is-lawful .ensures) ∙ not-false _ (left .if2 .left) in
+    let w = far .wide .ensures .0 in
+    let r = admits (a .m) m s _ _ w (admit .admit .ensures) in
+    let f = admitted-full ss (a .m .load) s (r ∙ c .enum-told3 .given .1) in
+    let t = books-next (a .m) m (a .e) (a .o) s next (bookable-by ss (a .m .load) s good (ap isNew (f .0)) (f .1)) in
     (step-no (keptIn (a .m) m) (Books (a .e) (a .o) s) t, mem-no m (keptIn (a .m) m) (a .e) (a .o) s t)
 
 -- new
 returns-6 : tie.Need-returns-6
 returns-6 c =
-    let a = c .before .before .before .before .before .before .before .before .before .before .before .before .before .before .args in
+    let booking = c .before .before .before .before .before in
+    let admit = booking .before .before in
+    let left = admit .before .before .before in
+    let step = left .before .before in
+    let far = step .before .before in
+    let a = far .before .before .args in
     let m = now (a .mem) in
     let s = now (a .slot) in
     let ss = slotsIn (a .m .last) m in
-    let next = sym (c .before .before .before .before .before .before .before .before .before .before .before .is-next .ensures) ∙ not-false _ (c .before .before .before .before .before .before .before .before .before .before .if1 .left) in
-    let good = sym (c .before .before .before .before .before .before .before .before .before .is-lawful .ensures) ∙ not-false _ (c .before .before .before .before .before .before .before .before .if2 .left) in
-    let w = c .before .before .before .before .before .before .before .before .before .before .before .before .wide .ensures .0 in
-    let r : admitOf ss (a .m .fills) (a .m .orders) s ≡ c .before .before .before .before .before .before .admit .result = ap (λ (k : ℕ). admitOf (slotsIn k m) (a .m .fills) (a .m .orders) s) (sym w) ∙ sym (c .before .before .before .before .before .before .admit .ensures) in
-    let b = admitted-new ss (a .m .fills) (a .m .orders) s (r ∙ c .before .before .before .before .booking .given .1) in
-    let t = books-next (a .m) m (a .e) (a .o) s next (bookable-by ss (a .m .fills) (a .m .orders) s good (ap isNew (b .0)) (b .1)) in
-    let fills = ap (λ (k : Booking). k .fills) (b .2) ∙ fills-fit (a .m) m (a .e) (a .o) s t in
-    let orders = ap (λ (k : Booking). k .orders) (b .2) ∙ orders-fit (a .m) m (a .e) (a .o) s t (omega arith) in (
-      step-yes (keptIn (a .m) m) (Books (a .e) (a .o) s) _ t (on-books (a .m) m (a .e) (a .o) _ _ s fills orders),
+    let next = sym (step .before .is-next .ensures) ∙ not-false _ (step .if1 .left) in
+    let good = sym (left .before .is-lawful .ensures) ∙ not-false _ (left .if2 .left) in
+    let w = far .wide .ensures .0 in
+    let r = admits (a .m) m s _ _ w (admit .admit .ensures) in
+    let b = admitted-new ss (a .m .load) s (r ∙ booking .booking .given .1) in
+    let t = books-next (a .m) m (a .e) (a .o) s next (bookable-by ss (a .m .load) s good (ap isNew (b .0)) (b .1)) in
+    let given = far .before .before .good .1 .0 in
+    let load = ap (λ (k : Booking). k .load) (b .2) ∙ load-fits (a .m) m (a .e) (a .o) s t (omega (arith, given)) (omega (arith, given)) (omega (arith, given)) in (
+      step-yes (keptIn (a .m) m) (Books (a .e) (a .o) s) _ t (on-books (a .m) m (a .e) (a .o) _ s load),
       mem-yes (a .m) m (a .e) (a .o) s t _ (c .before .append .ensures .1 ∙ ap (λ (k : ℕ). appended m k s) w),
     )
 
@@ -129,7 +152,7 @@ step-books-spec =
     (λ c. search needs)
     (λ c. search needs)
     (λ c κs. search needs)
-    add-t15
+    add-t17
     returns-3
     returns-4
     returns-5

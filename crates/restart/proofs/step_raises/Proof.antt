@@ -18,8 +18,9 @@ returns c =
 
 returns-2 : tie.Need-returns-2
 returns-2 c =
-    let a = c .before .before .args in
-    step-yes (bare (a .m)) (Raises (a .e) (a .o)) _ (sym (not-false _ (c .if1 .left)) ∙ c .before .raises-lawful .ensures) (on-raises (a .m) [] (a .e) (a .o))
+    let left = c .before in
+    let a = left .before .before .args in
+    step-yes (bare (a .m)) (Raises (a .e) (a .o)) _ (sym (not-false _ (left .if1 .left)) ∙ left .before .raises-lawful .ensures) (on-raises (a .m) [] (a .e) (a .o))
 
 pub step-raises-spec : {M : Type 1} → statement M
 step-raises-spec = tie.close (tie.spec (λ c κs. search needs) returns returns-2)

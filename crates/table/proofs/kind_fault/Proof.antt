@@ -18,8 +18,8 @@ returns-4 c = rw (c .before .before .enum-told .given .1, c .enum-told5 .given .
 returns-5 : tie.Need-returns-5
 returns-5 c = rw (c .before .before .before .enum-told .given .1, c .before .enum-told6 .given .1) (c .faulty2 .ensures)
 
-returns-13 : tie.Need-returns-13
-returns-13 c = rw (c .before .enum-told14 .given .1) (c .faulty3 .ensures)
+returns-14 : tie.Need-returns-14
+returns-14 c = rw (c .before .enum-told15 .given .1) (c .faulty3 .ensures)
 
 pub kind-fault-spec : {M : Type 1} → statement M
 kind-fault-spec =
@@ -41,6 +41,7 @@ kind-fault-spec =
     (λ c. search needs)
     (λ c. search needs)
     (λ c. search needs)
+    (λ c. search needs)
     (λ c κs. search needs)
     returns
     returns-2
@@ -54,4 +55,5 @@ kind-fault-spec =
     (λ c. search needs)
     (λ c. search needs)
     (λ c. search needs)
-    returns-13)
+    (λ c. search needs)
+    returns-14)

@@ -55,6 +55,10 @@ say-outcome-spec =
     (λ c κs. search needs)
     (λ c. search needs)
     (λ c κs. search needs)
+    (λ c. search needs)
+    (λ c. search needs)
+    (λ c. search needs)
+    (λ c κs. search needs)
     (λ c. rw (c .before .before .enum-told .given .1) (c .say .ensures))
     (λ c. rw (c .before .before .outcome .given .1) (c .say-rejected .ensures))
     rejected-ended
@@ -67,4 +71,5 @@ say-outcome-spec =
     (λ c. rw (c .before .before .before .outcome3 .given .1) (c .say-number .ensures))
     (λ c. rw (c .before .before .enum-told8 .given .1) (c .say9 .ensures))
     (λ c. rw (c .before .before .enum-told9 .given .1) (c .say10 .ensures))
-    (λ c. rw (c .before .before .outcome4 .given .1) (c .say-booked .ensures)))
+    (λ c. rw (c .before .before .outcome4 .given .1) (c .say-booked .ensures))
+    (λ c. rw (c .before .before .before .outcome5 .given .1) (c .say-number2 .ensures)))

@@ -1,5 +1,5 @@
 -- `player::reading::run` is safe and ends: its turns are counted down.
-use mathlib.Core.Path.{_≡_, refl}
+use mathlib.Core.Path.{_≡_, refl, _∙_}
 use lib.ListN.{length}
 use borrow.Author.Needs.{needs}
 use Rattle.player.proofs.reading.run.Statement.{statement}
@@ -15,6 +15,25 @@ abbrev μ-loop : tie.MeasureT-loop
 loop-holds : tie.Need-loop-holds Inv-loop μ-loop
 loop-holds c = (refl, refl, refl)
 
+-- the lent line is as long as it was
+same-length : tie.Need-same-length Inv-loop μ-loop
+same-length c = c .before .before .before .before .before .before .before .line .given ∙ c .before .before .before .before .before .before .before .before .before .before .before .before .before .before .loop .inv .0
+
+-- the lent bytes is as long as it was
+same-length-2 : tie.Need-same-length-2 Inv-loop μ-loop
+same-length-2 c = c .before .before .before .before .before .bytes .given ∙ c .before .before .before .before .before .before .before .before .before .before .before .before .before .before .loop .inv .1
+
+-- the lent journal is as long as it was
+same-length-3 : tie.Need-same-length-3 Inv-loop μ-loop
+same-length-3 c = c .before .before .before .journal .given ∙ c .before .before .before .before .before .before .before .before .before .before .before .before .before .before .loop .inv .2
+
+loop-again : tie.Need-loop-again Inv-loop μ-loop
+loop-again c = (
+  c .before .before .before .before .before .before .before .line .given ∙ c .before .before .before .before .before .before .before .before .before .before .before .before .before .before .loop .inv .0,
+  c .before .before .before .before .before .bytes .given ∙ c .before .before .before .before .before .before .before .before .before .before .before .before .before .before .loop .inv .1,
+  c .before .before .before .journal .given ∙ c .before .before .before .before .before .before .before .before .before .before .before .before .before .before .loop .inv .2,
+)
+
 pub run-spec : {M : Type 1} → statement M
 run-spec =
     tie.close
@@ -27,13 +46,13 @@ run-spec =
     (λ c κs. search needs)
     loop-holds
     (λ c κs. search needs)
+    same-length
+    same-length-2
+    same-length-3
     (λ c. search needs)
     (λ c. search needs)
     (λ c. search needs)
-    (λ c. search needs)
-    (λ c. search needs)
-    (λ c. search needs)
-    (λ c. search needs)
+    loop-again
     (λ c. search needs)
     (λ c. search needs)
     (λ c. search needs)

@@ -34,11 +34,15 @@ returns-7 c = rw (c .enum-told7 .given .1)
 
 returns-8 : tie.Need-returns-8
 unfolding effect
-returns-8 c = rw (c .before .enum-told8 .given .1) (c .heard3 .ensures)
+returns-8 c = rw (c .enum-told8 .given .1)
 
 returns-9 : tie.Need-returns-9
 unfolding effect
-returns-9 c = rw (c .before .enum-told9 .given .1) (c .heard4 .ensures)
+returns-9 c = rw (c .before .enum-told9 .given .1) (c .heard3 .ensures)
+
+returns-10 : tie.Need-returns-10
+unfolding effect
+returns-10 c = rw (c .before .enum-told10 .given .1) (c .heard4 .ensures)
 
 pub effect-spec : {M : Type 1} → statement M
 effect-spec =
@@ -58,6 +62,7 @@ effect-spec =
     (λ c κs. search needs)
     (λ c. search needs)
     (λ c. search needs)
+    (λ c. search needs)
     (λ c κs. search needs)
     (λ c. search needs)
     (λ c κs. search needs)
@@ -69,4 +74,5 @@ effect-spec =
     returns-6
     returns-7
     returns-8
-    returns-9)
+    returns-9
+    returns-10)

@@ -1,12 +1,11 @@
 -- `table::rows::header_row` meets its contract: each arm knows its place, and the last that the rows have ended.
-use native.Mathlib.Omega.{arith}
 use Rattle.table.specs.Rows.{headerRows}
 use Rattle.table.proofs.Walks.{passed, cell-past}
 use Rattle.table.proofs.rows.header_row.Statement.{statement}
 use Rattle.table.proofs.rows.header_row.Tie as tie
 
 past : tie.Need-returns-4
-past c = let r = c .match .rest in cell-past headerRows (c .before .args .i) (passed 2 (passed 1 (passed 0 (omega arith) (r .0 .0 .1)) (r .0 .1)) (r .1))
+past c = cell-past headerRows (c .before .args .i) (passed 3 _ (c .match .rest))
 
 pub header-row-spec : {M : Type 1} → statement M
 header-row-spec =

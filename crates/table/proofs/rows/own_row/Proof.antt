@@ -45,10 +45,13 @@ returns-8 : tie.Need-returns-8
 returns-8 c = rw (c .before .enum-told7 .given .1) (c .report-row .ensures)
 
 returns-9 : tie.Need-returns-9
-returns-9 c = rw (c .enum-told8 .given .1, le-ltb (c .before .before .before .before .args .i) 0 (omega arith))
+returns-9 c = rw (c .before .enum-told8 .given .1) (c .correction-row .ensures)
 
 returns-10 : tie.Need-returns-10
 returns-10 c = rw (c .enum-told9 .given .1, le-ltb (c .before .before .before .before .args .i) 0 (omega arith))
+
+returns-11 : tie.Need-returns-11
+returns-11 c = rw (c .enum-told10 .given .1, le-ltb (c .before .before .before .before .args .i) 0 (omega arith))
 
 pub own-row-spec : {M : Type 1} → statement M
 own-row-spec =
@@ -75,6 +78,8 @@ own-row-spec =
     (λ c. search needs)
     (λ c κs. search needs)
     (λ c. search needs)
+    (λ c κs. search needs)
+    (λ c. search needs)
     (λ c. search needs)
     returns-2
     returns-3
@@ -84,4 +89,5 @@ own-row-spec =
     returns-7
     returns-8
     returns-9
-    returns-10)
+    returns-10
+    returns-11)

@@ -1,12 +1,11 @@
 -- `table::rows::report_row` meets its contract: each arm knows its place, and the last that the rows have ended.
-use native.Mathlib.Omega.{arith}
 use Rattle.table.specs.Rows.{reportRows}
 use Rattle.table.proofs.Walks.{passed, cell-past}
 use Rattle.table.proofs.rows.report_row.Statement.{statement}
 use Rattle.table.proofs.rows.report_row.Tie as tie
 
 past : tie.Need-returns-15
-past c = let r = c .match .rest in cell-past reportRows (c .before .args .i) (passed 13 (passed 12 (passed 11 (passed 10 (passed 9 (passed 8 (passed 7 (passed 6 (passed 5 (passed 4 (passed 3 (passed 2 (passed 1 (passed 0 (omega arith) (r .0 .0 .0 .0 .0 .0 .0 .0 .0 .0 .0 .0 .0 .1)) (r .0 .0 .0 .0 .0 .0 .0 .0 .0 .0 .0 .0 .1)) (r .0 .0 .0 .0 .0 .0 .0 .0 .0 .0 .0 .1)) (r .0 .0 .0 .0 .0 .0 .0 .0 .0 .0 .1)) (r .0 .0 .0 .0 .0 .0 .0 .0 .0 .1)) (r .0 .0 .0 .0 .0 .0 .0 .0 .1)) (r .0 .0 .0 .0 .0 .0 .0 .1)) (r .0 .0 .0 .0 .0 .0 .1)) (r .0 .0 .0 .0 .0 .1)) (r .0 .0 .0 .0 .1)) (r .0 .0 .0 .1)) (r .0 .0 .1)) (r .0 .1)) (r .1))
+past c = cell-past reportRows (c .before .args .i) (passed 14 _ (c .match .rest))
 
 pub report-row-spec : {M : Type 1} → statement M
 report-row-spec =

@@ -29,6 +29,10 @@ returns-6 : tie.Need-returns-6
 unfolding badForm fits codeChecked
 returns-6 c = rw (c .before .before .form4 .given .1) (c .check-code .ensures)
 
+returns-7 : tie.Need-returns-7
+unfolding badForm fits
+returns-7 c = rw (c .before .before .enum-told3 .given .1) (c .fitted2 .ensures ∙ ap (checked none) (c .before .is-security .ensures))
+
 pub check-value-spec : {M : Type 1} → statement M
 check-value-spec =
     tie.close
@@ -46,9 +50,13 @@ check-value-spec =
     (λ c κs. search needs)
     (λ c. search needs)
     (λ c κs. search needs)
+    (λ c. search needs)
+    (λ c κs. search needs)
+    (λ c κs. search needs)
     returns
     returns-2
     returns-3
     returns-4
     returns-5
-    returns-6)
+    returns-6
+    returns-7)

@@ -1,0 +1,140 @@
+-- An entry changes nothing of the day's fills and orders, and nothing of what becomes of a report that comes after it.
+--     apart     the fills and orders
+--     later     the reports, in every world
+use Prim.Native.Nat.{ℕ, _+_, _<_}
+use mathlib.Core.Path.{_≡_, refl, sym, ap, ap₂, _∙_}
+use mathlib.Core.List.{List, [], _∷_, _++_}
+use mathlib.Core.Bool.{Bool, true, false, cond, _&&_, _||_}
+use native.Mathlib.Omega.{arith}
+use lib.ListN.{length, length-append}
+use lib.Dec.{ltb}
+use borrow.Author.Tests.{lt-ltb, ltb-true}
+use Rattle.octet.proofs.Cases.{cond-false, and-both}
+use Rattle.field.specs.Pieces.{Pieces}
+use Rattle.field.specs.Look.{lookOf}
+use Rattle.answer.specs.Numbers.{counted}
+use Rattle.answer.specs.declared.Setup.{Setup}
+use Rattle.answer.specs.declared.Outcome.the-variants as outcome
+use Rattle.answer.specs.declared.Refusal.the-variants as refusal
+use Rattle.fill.specs.Slot.{Slot, isEntry}
+use Rattle.book.specs.Memory.{mostSlots}
+use Rattle.book.specs.Place.{mostFills, mostOrders, knownOrder, fillRoom, inStep}
+use Rattle.book.specs.Admitting.{place, hasRoom, loadWith, withEntry}
+use Rattle.book.specs.declared.Load.{Load}
+use Rattle.book.specs.declared.Placed.{Placed}
+use Rattle.book.specs.declared.Placed.the-variants as placed
+use Rattle.book.proofs.ByKind.{entry-no-fill, place-fill, room-fill, load-entry}
+use Rattle.book.proofs.Placing.{has-room}
+use Rattle.book.proofs.Orders.{orders-still, fills-still}
+use Rattle.book.proofs.Apart.{find-exec-apart, find-order-apart, sum-order-apart, place-fill-apart, fill-room-apart, step-apart}
+use Rattle.note.specs.Kept.{after}
+use Rattle.note.proofs.Keeping.{Sound, slots-split}
+use Rattle.session.specs.Session.{expecting}
+use Rattle.session.specs.Judging.{judge, rejected, passed}
+use Rattle.session.specs.declared.Session.{Session}
+use Rattle.receiver.specs.State.{State, sessionOf}
+use Rattle.receiver.specs.Calls.{Keep, Refuse, Say, This, broughtBy, bringsOf, withRoom, placedAs, becomes, bookedAs, withSlot}
+use Rattle.promise.specs.World.{Step, world}
+use Rattle.promise.specs.Entering.{Apart, afterHearing, Later}
+use Rattle.promise.proofs.Good.{good, safe-live}
+
+pub apart : (ss : List Slot) (e : Slot) → isEntry e ≡ true → Apart ss e
+apart ss e is =
+    let not-fill = entry-no-fill e is in
+    record {
+      known = λ f. find-exec-apart e not-fill ss f;
+      order = λ f. find-order-apart e not-fill ss f;
+      sum = λ f. sum-order-apart e not-fill ss f;
+      placed = λ f. place-fill-apart e not-fill ss f;
+      stepped = λ f. step-apart e not-fill ss f;
+      orders = orders-still ss e not-fill;
+      fills = fills-still ss e not-fill;
+    }
+
+-- ---- a report after it
+
+-- two states with one session, and room in both or in neither, decide alike of a slot that is placed alike
+placed-alike : (a b : State) (n : ℕ) (f : Slot) (p : Placed) → sessionOf a ≡ sessionOf b
+    → hasRoom (a .kept .slots) (a .kept .load) f ≡ hasRoom (b .kept .slots) (b .kept .load) f → placedAs a n f p ≡ placedAs b n f p
+unfolding placedAs withRoom
+placed-alike a b n f placed.New same room = ap (λ (r : Bool). cond r (Keep f) (Refuse refusal.NoRoom)) room
+placed-alike a b n f placed.Already same room = ap (λ (s : Session). Say (passed outcome.Already s)) same
+placed-alike a b n f (placed.Clash g) same room = ap (λ (s : Session). Say (rejected s n g)) same
+
+either : (a b c : Bool) → (c ≡ true → a ≡ true) → (c ≡ true → b ≡ true) → a && c ≡ b && c
+either a b true h k = ap (λ (x : Bool). x && true) (h refl ∙ sym (k refl))
+either true true false h k = refl
+either true false false h k = refl
+either false true false h k = refl
+either false false false h k = refl
+
+module _ (st : State) (sound : Sound (st .kept)) (e : Slot) (is : isEntry e ≡ true) (has : hasRoom (st .kept .slots) (st .kept .load) e ≡ true) where
+  abbrev ss : List Slot
+  ss = st .kept .slots
+
+  abbrev load : Load
+  load = st .kept .load
+
+  longer : length (ss ++ (e ∷ [])) ≡ length ss + 1
+  longer = length-append ss (e ∷ [])
+
+  -- E is far below the number at which a count stops
+  session-same : sessionOf (withSlot st e) ≡ sessionOf (afterHearing st)
+  unfolding after
+  session-same =
+      let low = sound .expected in
+      let raised-one : st .kept .e + 1 ≡ counted (st .kept .e) 1 = omega arith in
+      ap (λ (n : ℕ). expecting n (sessionOf st)) raised-one
+
+  brings-same : (setup : Setup) (ps : Pieces) → bringsOf setup (withSlot st e) ps ≡ bringsOf setup (afterHearing st) ps
+  unfolding bringsOf
+  brings-same setup ps = ap (λ (s : Session). broughtBy s (lookOf ps) (judge setup s ps)) session-same
+
+  -- where fills have room there is a slot for one more, with the entry as without it
+  module _ (f : Slot) (other : isEntry f ≡ false) where
+    slot-left : fillRoom ss (load .fills) (load .orders) f ≡ true → length ss + 1 < mostSlots
+    unfolding fillRoom
+    slot-left t =
+        let fills = ltb-true (load .fills) mostFills (and-both (ltb (load .fills) mostFills) (knownOrder ss f || ltb (load .orders) mostOrders) t .0) in
+        let entries = has-room ss load e has .few-entries is in
+        omega (arith, slots-split (st .kept) sound)
+
+    room-same : hasRoom (ss ++ (e ∷ [])) (loadWith ss load e) f ≡ hasRoom ss load f
+    room-same =
+        let room : Bool = fillRoom ss (load .fills) (load .orders) f in
+        ap (λ (l : Load). hasRoom (ss ++ (e ∷ [])) l f) (load-entry e is ss load)
+        ∙ room-fill f other (ss ++ (e ∷ [])) (withEntry load)
+        ∙ ap₂ (λ (n : ℕ) (b : Bool). ltb n mostSlots && b) longer (fill-room-apart e (entry-no-fill e is) ss f (load .fills) (load .orders))
+        ∙ either (ltb (length ss + 1) mostSlots) (ltb (length ss) mostSlots) room
+        (λ t. lt-ltb (length ss + 1) mostSlots (slot-left t))
+        (λ t. lt-ltb (length ss) mostSlots (let l = slot-left t in omega arith))
+        ∙ sym (room-fill f other ss load)
+
+    place-same : place (ss ++ (e ∷ [])) f ≡ place ss f
+    place-same = place-fill f other (ss ++ (e ∷ [])) ∙ place-fill-apart e (entry-no-fill e is) ss f ∙ sym (place-fill f other ss)
+
+    becomes-same : (n : ℕ) → becomes (withSlot st e) (This n f) ≡ becomes (afterHearing st) (This n f)
+    unfolding becomes after
+    becomes-same n =
+        ap (placedAs (withSlot st e) n f) place-same
+        ∙ placed-alike (withSlot st e) (afterHearing st) n f (place ss f) session-same room-same
+
+    booked-after : bookedAs (afterHearing st) f ≡ outcome.Booked (length ss + 1) (inStep ss f)
+    booked-after = cond-false (isEntry f) (outcome.Entered (length ss + 1)) (outcome.Booked (length ss + 1) (inStep ss f)) other
+
+    booked-later : bookedAs (withSlot st e) f ≡ outcome.Booked (length ss + 2) (inStep ss f)
+    unfolding after
+    booked-later =
+        let two : length (ss ++ (e ∷ [])) + 1 ≡ length ss + 2 = omega (arith, longer) in
+        cond-false (isEntry f) _ _ other ∙ ap₂ outcome.Booked two (step-apart e (entry-no-fill e is) ss f)
+
+-- in every world, of an entry that has room
+pub later : (steps : List Step) (e : Slot) → isEntry e ≡ true → hasRoom (world steps .live .kept .slots) (world steps .live .kept .load) e ≡ true → Later (world steps .live) e
+later steps e is has =
+    let st : State = world steps .live in
+    let sound = safe-live (world steps) (good steps) .sound in
+    record {
+      brings = brings-same st sound e is has;
+      becomes′ = λ n f other. becomes-same st sound e is has f other n;
+      answered = λ f other. (booked-after st sound e is has f other, booked-later st sound e is has f other);
+    }
