@@ -28,7 +28,7 @@ use Rattle.restart.specs.declared.Counts.{Counts}
 use Rattle.restart.specs.declared.Step.{Step}
 use Rattle.restart.specs.declared.Step.the-variants as step
 use Rattle.restart.specs.declared.Restarted.the-variants as restarted
-use Rattle.restart.specs.Restart.{Outcome, Again, Unlawful, restart, countsOf, told, bookAfter, HasSlots}
+use Rattle.restart.specs.Restart.{Outcome, Again, Unlawful, restart, countsOf, told, bookAfter, HasSlots, loadIn}
 use Rattle.restart.specs.Steps.{keptIn, bare, isNext, stepNote, stepRead, memNote, memRead}
 use Rattle.restart.proofs.Going.{go, restart-go, go-end, go-part, go-unknown, go-bad, go-on, some-taken, GivenIn}
 
@@ -65,21 +65,21 @@ pub next-by : (m : Counts) (e o : ℕ) {a b c : Bool} → eqb e (m .e + 1) ≡ a
 next-by m e o ea eb ec = cc
 
 -- what becomes of its slot, as the book is asked it
-pub admits : (m : Counts) (mem : List ℕ) (s : Slot) (k : ℕ) (r : Admitted) → k ≡ m .last → r ≡ admitOf (slotsIn k mem) (m .load) s → admitOf (slotsIn (m .last) mem) (m .load) s ≡ r
-admits m mem s k r e f = ap (λ (n : ℕ). admitOf (slotsIn n mem) (m .load) s) (sym e) ∙ sym f
+pub admits : (m : Counts) (mem : List ℕ) (s : Slot) (k : ℕ) (r : Admitted) → k ≡ m .last → r ≡ admitOf (slotsIn k mem) (loadIn m) s → admitOf (slotsIn (m .last) mem) (loadIn m) s ≡ r
+admits m mem s k r e f = ap (λ (n : ℕ). admitOf (slotsIn n mem) (loadIn m) s) (sym e) ∙ sym f
 
 module _ (m : Counts) (mem : List ℕ) (e o : ℕ) (s : Slot) where
   pub books-out : isNext m e o ≡ false → false ≡ lawful (keptIn m mem) (Books e o s)
   unfolding lawful
-  books-out h = sym (and-no-left (isNext m e o) (bookable (slotsIn (m .last) mem) (m .load) s) h)
+  books-out h = sym (and-no-left (isNext m e o) (bookable (slotsIn (m .last) mem) (loadIn m) s) h)
 
-  pub books-next : {d : Bool} → isNext m e o ≡ true → d ≡ bookable (slotsIn (m .last) mem) (m .load) s → d ≡ lawful (keptIn m mem) (Books e o s)
+  pub books-next : {d : Bool} → isNext m e o ≡ true → d ≡ bookable (slotsIn (m .last) mem) (loadIn m) s → d ≡ lawful (keptIn m mem) (Books e o s)
   unfolding lawful
-  books-next h f = f ∙ sym (ap (λ (a : Bool). a && bookable (slotsIn (m .last) mem) (m .load) s) h)
+  books-next h f = f ∙ sym (ap (λ (a : Bool). a && bookable (slotsIn (m .last) mem) (loadIn m) s) h)
 
 -- ---- counts
 abbrev counts : ℕ → ℕ → ℕ → Load → ℕ → Counts
-counts e o last load acked = record { e = e; o = o; last = last; load = load; acked = acked }
+counts e o last load acked = record { e = e; o = o; last = last; fills = load .fills; orders = load .orders; entries = load .entries; acked = acked }
 
 abbrev kept : ℕ → ℕ → List Slot → Load → ℕ → Kept
 kept e o slots load acked = record { e = e; o = o; slots = slots; load = load; acked = acked }
@@ -89,21 +89,21 @@ module _ (m : Counts) (mem : List ℕ) where
   last-is = slots-length (m .last) mem
 
   pub counts-kept : countsOf (keptIn m mem) ≡ m
-  counts-kept = ap (λ (n : ℕ). counts (m .e) (m .o) n (m .load) (m .acked)) last-is
+  counts-kept = ap (λ (n : ℕ). counts (m .e) (m .o) n (loadIn m) (m .acked)) last-is
 
-  pub on-raises : (e o : ℕ) → counts e o (m .last) (m .load) (m .acked) ≡ countsOf (after (keptIn m mem) (Raises e o))
+  pub on-raises : (e o : ℕ) → counts e o (m .last) (loadIn m) (m .acked) ≡ countsOf (after (keptIn m mem) (Raises e o))
   unfolding after
-  on-raises e o = ap (λ (n : ℕ). counts e o n (m .load) (m .acked)) (sym last-is)
+  on-raises e o = ap (λ (n : ℕ). counts e o n (loadIn m) (m .acked)) (sym last-is)
 
-  pub on-acks : (k : ℕ) → counts (m .e) (m .o) (m .last) (m .load) k ≡ countsOf (after (keptIn m mem) (Acks k))
+  pub on-acks : (k : ℕ) → counts (m .e) (m .o) (m .last) (loadIn m) k ≡ countsOf (after (keptIn m mem) (Acks k))
   unfolding after
-  on-acks k = ap (λ (n : ℕ). counts (m .e) (m .o) n (m .load) k) (sym last-is)
+  on-acks k = ap (λ (n : ℕ). counts (m .e) (m .o) n (loadIn m) k) (sym last-is)
 
   pub on-clears : countsOf empty ≡ countsOf (after (keptIn m mem) Clears)
   unfolding after
   on-clears = refl
 
-  pub on-books : (e o : ℕ) (load : Load) (s : Slot) → load ≡ loadWith (slotsIn (m .last) mem) (m .load) s
+  pub on-books : (e o : ℕ) (load : Load) (s : Slot) → load ≡ loadWith (slotsIn (m .last) mem) (loadIn m) s
       → counts e o (m .last + 1) load (m .acked) ≡ countsOf (after (keptIn m mem) (Books e o s))
   unfolding after
   on-books e o load s g =
@@ -114,12 +114,12 @@ module _ (m : Counts) (mem : List ℕ) where
   pub any-raises : (e o : ℕ) → stepNote (bare m) (Raises e o) ≡ stepNote (keptIn m mem) (Raises e o)
   unfolding stepNote lawful after
   any-raises e o =
-      ap (λ (n : ℕ). cond (lawful (bare m) (Raises e o)) (step.On (counts e o n (m .load) (m .acked))) step.Bad) (slots-length (m .last) [] ∙ sym last-is)
+      ap (λ (n : ℕ). cond (lawful (bare m) (Raises e o)) (step.On (counts e o n (loadIn m) (m .acked))) step.Bad) (slots-length (m .last) [] ∙ sym last-is)
 
   pub any-acks : (k : ℕ) → stepNote (bare m) (Acks k) ≡ stepNote (keptIn m mem) (Acks k)
   unfolding stepNote lawful after
   any-acks k =
-      ap (λ (n : ℕ). cond (ltb (m .acked) k && leb k n) (step.On (counts (m .e) (m .o) n (m .load) k)) step.Bad) (slots-length (m .last) [] ∙ sym last-is)
+      ap (λ (n : ℕ). cond (ltb (m .acked) k && leb k n) (step.On (counts (m .e) (m .o) n (loadIn m) k)) step.Bad) (slots-length (m .last) [] ∙ sym last-is)
 
   pub any-clears : stepNote (bare m) Clears ≡ stepNote (keptIn m mem) Clears
   unfolding stepNote lawful after
@@ -130,18 +130,18 @@ module _ (m : Counts) (mem : List ℕ) where
 pub kept-after : (m : Counts) (mem : List ℕ) (note : Note) → length mem ≡ bookWidth → Slotted note → lawful (keptIn m mem) note ≡ true
     → keptIn (countsOf (after (keptIn m mem) note)) (memNote mem (keptIn m mem) note) ≡ after (keptIn m mem) note
 unfolding after memNote slotsIn
-kept-after m mem (Raises e o) l w t = ap (λ (n : ℕ). kept e o (slotsIn n mem) (m .load) (m .acked)) (last-is m mem)
+kept-after m mem (Raises e o) l w t = ap (λ (n : ℕ). kept e o (slotsIn n mem) (loadIn m) (m .acked)) (last-is m mem)
 kept-after m mem (Books e o s) l w t =
     let q = keptIn m mem in
     let ss = slotsIn (m .last) mem in
-    let room : length ss < mostSlots = has-room ss (m .load) s (bookable-facts ss (m .load) s (lawful-books q e o s t .3) .2) .slot-left in
+    let room : length ss < mostSlots = has-room ss (loadIn m) s (bookable-facts ss (loadIn m) s (lawful-books q e o s t .3) .2) .slot-left in
     let f : length ss ≡ m .last = last-is m mem in
     let n : length (ss ++ (s ∷ [])) ≡ m .last + 1 = omega (arith, length-append ss (s ∷ [])) in
     let mem′ : cond (lawful q (Books e o s)) (appended mem (length ss) s) mem ≡ appended mem (m .last) s =
     cond-true (lawful q (Books e o s)) (appended mem (length ss) s) mem t ∙ ap (λ (k : ℕ). appended mem k s) f in
-    ap (λ (x : List Slot). kept e o x (loadWith ss (m .load) s) (m .acked))
+    ap (λ (x : List Slot). kept e o x (loadWith ss (loadIn m) s) (m .acked))
     (ap₂ slotsIn n mem′ ∙ slots-append mem (m .last) s (omega arith) (w .wide) l)
-kept-after m mem (Acks k) l w t = ap (λ (n : ℕ). kept (m .e) (m .o) (slotsIn n mem) (m .load) k) (last-is m mem)
+kept-after m mem (Acks k) l w t = ap (λ (n : ℕ). kept (m .e) (m .o) (slotsIn n mem) (loadIn m) k) (last-is m mem)
 kept-after m mem Clears l w t = refl
 
 -- ---- what a step says of the whole restart
@@ -288,16 +288,16 @@ module _ (m : Counts) (mem : List ℕ) (e o : ℕ) (s : Slot) (t : true ≡ lawf
       h ∙ ap (λ (k : ℕ). appended mem k s) (sym (last-is m mem))
       ∙ sym (cond-true (lawful (keptIn m mem) (Books e o s)) (appended mem (length (slotsIn (m .last) mem)) s) mem (sym t))
 
-  room : hasRoom (slotsIn (m .last) mem) (m .load) s ≡ true
-  room = bookable-facts (slotsIn (m .last) mem) (m .load) s (lawful-books (keptIn m mem) e o s (sym t) .3) .2
+  room : hasRoom (slotsIn (m .last) mem) (loadIn m) s ≡ true
+  room = bookable-facts (slotsIn (m .last) mem) (loadIn m) s (lawful-books (keptIn m mem) e o s (sym t) .3) .2
 
   -- the counts stay in their range
   pub last-few : m .last < mostSlots
-  last-few = omega (arith, last-is m mem, has-room (slotsIn (m .last) mem) (m .load) s room .slot-left)
+  last-few = omega (arith, last-is m mem, has-room (slotsIn (m .last) mem) (loadIn m) s room .slot-left)
 
-  pub load-fits : m .load .fills ≤ largest → m .load .orders ≤ largest → m .load .entries ≤ largest
-      → bookingOf (slotsIn (m .last) mem) (m .load) s .load ≡ loadWith (slotsIn (m .last) mem) (m .load) s
-  load-fits hf ho he = booking-load (slotsIn (m .last) mem) (m .load) s hf ho he room
+  pub load-fits : m .fills ≤ largest → m .orders ≤ largest → m .entries ≤ largest
+      → bookingOf (slotsIn (m .last) mem) (loadIn m) s .load ≡ loadWith (slotsIn (m .last) mem) (loadIn m) s
+  load-fits hf ho he = booking-load (slotsIn (m .last) mem) (loadIn m) s hf ho he room
 
 -- ---- the used slots of the replay are copied into the book
 -- only they are written

@@ -6,6 +6,7 @@ use mathlib.Core.Option.{Option, none, some}
 use mathlib.Core.Bool.{cond}
 use lib.ListN.{length, drop}
 use Rattle.book.specs.Memory.{slotsIn, holding}
+use Rattle.book.specs.declared.Load.{Load}
 use Rattle.note.specs.Notes.{Reading, Whole, Part, Unknown, readNote}
 use Rattle.note.specs.Kept.{Kept, empty, lawful, after}
 use Rattle.answer.specs.declared.Refusal.{Refusal}
@@ -36,7 +37,19 @@ restart notes = run (length notes) empty 0 notes
 -- ---- the code's answer, with the slots in the lent book: "Lent bytes past what is written stay"
 
 abbrev pub countsOf : Kept → Counts
-countsOf q = record { e = q .e; o = q .o; last = length (q .slots); load = q .load; acked = q .acked }
+countsOf q = record {
+  e = q .e;
+  o = q .o;
+  last = length (q .slots);
+  fills = q .load .fills;
+  orders = q .load .orders;
+  entries = q .load .entries;
+  acked = q .acked;
+}
+
+-- the load that they count
+abbrev pub loadIn : Counts → Load
+loadIn m = record { fills = m .fills; orders = m .orders; entries = m .entries }
 
 abbrev pub told : Outcome → Restarted
 told (Again q whole) = restarted.Again (countsOf q) whole

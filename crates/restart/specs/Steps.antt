@@ -9,7 +9,7 @@ use Rattle.answer.specs.Numbers.{nineDigits}
 use Rattle.book.specs.Memory.{bookWidth, slotsIn, appended}
 use Rattle.note.specs.Notes.{Note, Raises, Books, Acks, Clears, Reading, Whole, Part, Unknown}
 use Rattle.note.specs.Kept.{Kept, lawful, after}
-use Rattle.restart.specs.Restart.{Outcome, countsOf, told, HasSlots}
+use Rattle.restart.specs.Restart.{Outcome, countsOf, loadIn, told, HasSlots}
 use Rattle.restart.specs.declared.Counts.{Counts}
 use Rattle.restart.specs.declared.Restarted.{Restarted}
 use Rattle.restart.specs.declared.Step.{Step}
@@ -17,7 +17,7 @@ use Rattle.restart.specs.declared.Step.the-variants as step
 
 -- what is kept, from the counts and the memory that has the slots
 abbrev pub keptIn : Counts → List ℕ → Kept
-keptIn m mem = record { e = m .e; o = m .o; slots = slotsIn (m .last) mem; load = m .load; acked = m .acked }
+keptIn m mem = record { e = m .e; o = m .o; slots = slotsIn (m .last) mem; load = loadIn m; acked = m .acked }
 
 -- S, K and D are judged by the counts alone: any memory does
 abbrev pub bare : Counts → Kept

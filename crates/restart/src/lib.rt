@@ -12,15 +12,17 @@ use answer::NINE_DIGITS;
 use book::Admitted;
 use book::BOOK;
 use book::Load;
-use book::NO_LOAD;
 use note::Read;
 
-// What the notes keep but for the slots, which are in the lent book: last is the last number given, as many slots there are.
+// What the notes keep but for the slots, which are in the lent book: last is the last number given, as many slots there are. The load is
+// here as three numbers: a struct in a struct would be copied with every note.
 pub struct Counts {
     pub e: u32,
     pub o: u32,
     pub last: u32,
-    pub load: Load,
+    pub fills: u32,
+    pub orders: u32,
+    pub entries: u32,
     pub acked: u32,
 }
 
@@ -72,12 +74,13 @@ fn step_raises(m: Counts, e: u32, o: u32) -> Step
     if !raises_lawful(m, e, o) {
         return Step::Bad;
     }
-    let load = m.load;
     Step::On(Counts {
         e,
         o,
         last: m.last,
-        load,
+        fills: m.fills,
+        orders: m.orders,
+        entries: m.entries,
         acked: m.acked,
     })
 }
@@ -92,12 +95,13 @@ fn step_acks(m: Counts, n: u32) -> Step
     if m.last < n {
         return Step::Bad;
     }
-    let load = m.load;
     Step::On(Counts {
         e: m.e,
         o: m.o,
         last: m.last,
-        load,
+        fills: m.fills,
+        orders: m.orders,
+        entries: m.entries,
         acked: n,
     })
 }
@@ -110,7 +114,9 @@ fn empty_counts() -> Counts
         e: 1,
         o: 1,
         last: 0,
-        load: NO_LOAD,
+        fills: 0,
+        orders: 0,
+        entries: 0,
         acked: 0,
     }
 }
@@ -158,7 +164,11 @@ fn step_books(mem: &mut [u8; BOOK], m: Counts, e: u32, o: u32, slot: &[u8]) -> S
     if !fill::is_lawful(slot) {
         return Step::Bad;
     }
-    let load = m.load;
+    let load = Load {
+        fills: m.fills,
+        orders: m.orders,
+        entries: m.entries,
+    };
     match book::admit(mem, last, load, slot) {
         Admitted::Clash(_) => Step::Bad,
         Admitted::Already => Step::Bad,
@@ -170,7 +180,9 @@ fn step_books(mem: &mut [u8; BOOK], m: Counts, e: u32, o: u32, slot: &[u8]) -> S
                 e,
                 o,
                 last: m.last + 1,
-                load: more,
+                fills: more.fills,
+                orders: more.orders,
+                entries: more.entries,
                 acked: m.acked,
             })
         }

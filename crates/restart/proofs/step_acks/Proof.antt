@@ -26,7 +26,7 @@ returns-2 c =
 
 returns-3 : tie.Need-returns-3
 returns-3 c =
-    let a = c .before .before .before .before .before .args in
+    let a = c .before .before .before .before .args in
     step-yes (bare (a .m)) (Acks (a .n)) _
     (acks-by (bare (a .m)) (a .n) (lt-ltb (a .m .acked) (a .n) (omega arith)) (le-leb (a .n) (length (slotsIn (a .m .last) [])) (omega (arith, last-is (a .m) []))))
     (on-acks (a .m) [] (a .n))

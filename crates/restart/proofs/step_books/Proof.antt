@@ -11,6 +11,7 @@ use Rattle.book.specs.declared.Booking.{Booking}
 use Rattle.book.proofs.Placing.{admitted-clash, admitted-already, admitted-full, admitted-new}
 use Rattle.note.specs.Notes.{Books}
 use Rattle.restart.specs.Steps.{keptIn}
+use Rattle.restart.specs.Restart.{loadIn}
 use Rattle.restart.proofs.Stepping.{admits, bookable-by, books-out, books-next, step-no, step-yes, on-books, mem-no, mem-yes, last-few, load-fits}
 use Rattle.restart.proofs.step_books.Statement.{statement}
 use Rattle.restart.proofs.step_books.Tie as tie
@@ -33,7 +34,7 @@ returns-2 c =
     let s = now (a .slot) in
     let isnt = sym (c .before .is-lawful .ensures) ∙ not-true _ (c .if2 .taken) in
     let is = sym (next .before .is-next .ensures) ∙ not-false _ (next .if1 .left) in
-    let t = books-next (a .m) m (a .e) (a .o) s is (bookable-by (slotsIn (a .m .last) m) (a .m .load) s isnt refl refl) in
+    let t = books-next (a .m) m (a .e) (a .o) s is (bookable-by (slotsIn (a .m .last) m) (loadIn (a .m)) s isnt refl refl) in
     (step-no (keptIn (a .m) m) (Books (a .e) (a .o) s) t, mem-no m (keptIn (a .m) m) (a .e) (a .o) s t)
 
 -- new: there is a number for it
@@ -41,7 +42,7 @@ add-t17 : tie.Need-add-t17
 add-t17 c =
     let booking = c .before .before .before .before .before in
     let admit = booking .before .before in
-    let left = admit .before .before .before in
+    let left = admit .before .before in
     let step = left .before .before in
     let far = step .before .before in
     let a = far .before .before .args in
@@ -52,15 +53,15 @@ add-t17 c =
     let good = sym (left .before .is-lawful .ensures) ∙ not-false _ (left .if2 .left) in
     let w = far .wide .ensures .0 in
     let r = admits (a .m) m s _ _ w (admit .admit .ensures) in
-    let b = admitted-new ss (a .m .load) s (r ∙ booking .booking .given .1) in
-    let t = books-next (a .m) m (a .e) (a .o) s next (bookable-by ss (a .m .load) s good (ap isNew (b .0)) (b .1)) in
+    let b = admitted-new ss (loadIn (a .m)) s (r ∙ booking .booking .given .1) in
+    let t = books-next (a .m) m (a .e) (a .o) s next (bookable-by ss (loadIn (a .m)) s good (ap isNew (b .0)) (b .1)) in
     omega (arith, last-few (a .m) m (a .e) (a .o) s t)
 
 -- at odds with a slot
 returns-3 : tie.Need-returns-3
 returns-3 c =
     let admit = c .before .before in
-    let left = admit .before .before .before in
+    let left = admit .before .before in
     let step = left .before .before in
     let far = step .before .before in
     let a = far .before .before .args in
@@ -71,15 +72,15 @@ returns-3 c =
     let good = sym (left .before .is-lawful .ensures) ∙ not-false _ (left .if2 .left) in
     let w = far .wide .ensures .0 in
     let r = admits (a .m) m s _ _ w (admit .admit .ensures) in
-    let f = admitted-clash ss (a .m .load) s (r ∙ c .enum-told .given .1) in
-    let t = books-next (a .m) m (a .e) (a .o) s next (bookable-by ss (a .m .load) s good (ap isNew f) refl) in
+    let f = admitted-clash ss (loadIn (a .m)) s (r ∙ c .enum-told .given .1) in
+    let t = books-next (a .m) m (a .e) (a .o) s next (bookable-by ss (loadIn (a .m)) s good (ap isNew f) refl) in
     (step-no (keptIn (a .m) m) (Books (a .e) (a .o) s) t, mem-no m (keptIn (a .m) m) (a .e) (a .o) s t)
 
 -- already booked
 returns-4 : tie.Need-returns-4
 returns-4 c =
     let admit = c .before .before in
-    let left = admit .before .before .before in
+    let left = admit .before .before in
     let step = left .before .before in
     let far = step .before .before in
     let a = far .before .before .args in
@@ -90,15 +91,15 @@ returns-4 c =
     let good = sym (left .before .is-lawful .ensures) ∙ not-false _ (left .if2 .left) in
     let w = far .wide .ensures .0 in
     let r = admits (a .m) m s _ _ w (admit .admit .ensures) in
-    let f = admitted-already ss (a .m .load) s (r ∙ c .enum-told2 .given .1) in
-    let t = books-next (a .m) m (a .e) (a .o) s next (bookable-by ss (a .m .load) s good (ap isNew f) refl) in
+    let f = admitted-already ss (loadIn (a .m)) s (r ∙ c .enum-told2 .given .1) in
+    let t = books-next (a .m) m (a .e) (a .o) s next (bookable-by ss (loadIn (a .m)) s good (ap isNew f) refl) in
     (step-no (keptIn (a .m) m) (Books (a .e) (a .o) s) t, mem-no m (keptIn (a .m) m) (a .e) (a .o) s t)
 
 -- no room
 returns-5 : tie.Need-returns-5
 returns-5 c =
     let admit = c .before .before in
-    let left = admit .before .before .before in
+    let left = admit .before .before in
     let step = left .before .before in
     let far = step .before .before in
     let a = far .before .before .args in
@@ -109,8 +110,8 @@ returns-5 c =
     let good = sym (left .before .is-lawful .ensures) ∙ not-false _ (left .if2 .left) in
     let w = far .wide .ensures .0 in
     let r = admits (a .m) m s _ _ w (admit .admit .ensures) in
-    let f = admitted-full ss (a .m .load) s (r ∙ c .enum-told3 .given .1) in
-    let t = books-next (a .m) m (a .e) (a .o) s next (bookable-by ss (a .m .load) s good (ap isNew (f .0)) (f .1)) in
+    let f = admitted-full ss (loadIn (a .m)) s (r ∙ c .enum-told3 .given .1) in
+    let t = books-next (a .m) m (a .e) (a .o) s next (bookable-by ss (loadIn (a .m)) s good (ap isNew (f .0)) (f .1)) in
     (step-no (keptIn (a .m) m) (Books (a .e) (a .o) s) t, mem-no m (keptIn (a .m) m) (a .e) (a .o) s t)
 
 -- new
@@ -118,7 +119,7 @@ returns-6 : tie.Need-returns-6
 returns-6 c =
     let booking = c .before .before .before .before .before in
     let admit = booking .before .before in
-    let left = admit .before .before .before in
+    let left = admit .before .before in
     let step = left .before .before in
     let far = step .before .before in
     let a = far .before .before .args in
@@ -129,8 +130,8 @@ returns-6 c =
     let good = sym (left .before .is-lawful .ensures) ∙ not-false _ (left .if2 .left) in
     let w = far .wide .ensures .0 in
     let r = admits (a .m) m s _ _ w (admit .admit .ensures) in
-    let b = admitted-new ss (a .m .load) s (r ∙ booking .booking .given .1) in
-    let t = books-next (a .m) m (a .e) (a .o) s next (bookable-by ss (a .m .load) s good (ap isNew (b .0)) (b .1)) in
+    let b = admitted-new ss (loadIn (a .m)) s (r ∙ booking .booking .given .1) in
+    let t = books-next (a .m) m (a .e) (a .o) s next (bookable-by ss (loadIn (a .m)) s good (ap isNew (b .0)) (b .1)) in
     let given = far .before .before .good .1 .0 in
     let load = ap (λ (k : Booking). k .load) (b .2) ∙ load-fits (a .m) m (a .e) (a .o) s t (omega (arith, given)) (omega (arith, given)) (omega (arith, given)) in (
       step-yes (keptIn (a .m) m) (Books (a .e) (a .o) s) _ t (on-books (a .m) m (a .e) (a .o) _ s load),

@@ -18,7 +18,7 @@ returns c =
 
 returns-2 : tie.Need-returns-2
 returns-2 c =
-    let left = c .before in
+    let left = c in
     let a = left .before .before .args in
     step-yes (bare (a .m)) (Raises (a .e) (a .o)) _ (sym (not-false _ (left .if1 .left)) ∙ left .before .raises-lawful .ensures) (on-raises (a .m) [] (a .e) (a .o))
 
