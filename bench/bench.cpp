@@ -1,5 +1,7 @@
 // The receiver's calls, and QuickFIX's parse of the same messages, timed in turn in one process. bench/run builds and runs it.
 //   bench [ROUNDS [MILLISECONDS]]    how often each work is timed, and for how long each time
+//   bench --works                    the names of the whole calls that are timed, a line each
+//   bench --calls WORK CALLS         so many calls of one of them, counted from 0, and no more: for a counter of instructions (bench/run --count)
 // Before anything is timed every call is made once and what it did is looked at: a work that is not what its name says ends the program with status 1.
 #include <quickfix/Message.h>
 
@@ -291,12 +293,12 @@ struct Bench {
         return [own, notes]() { bench_restart(own->book.data(), bytes_of(notes), notes.size()); };
     }
 
-    void messages() {
+    vector<Work> messages() {
         const string fresh = report(FILLS, FILLS - 1, ORDERS - 1), known = report(FILLS, FILLS - 1, ORDERS - 2);
         const string again = report(FILLS + 1, FILLS - 1, ORDERS - 1), beat = framed(head("0", FILLS + 1));
         const string test = framed(head("1", FILLS + 1) + "112=ARE-YOU-THERE-0513|"), wrong = report(FILLS, FILLS - 1, ORDERS - 1, "2");
         const string fields = long_report(4096, true), text = long_report(4096, false), bust = cancel(FILLS, ENTRIES - 1);
-        vector<Work> works = {
+        return {
             {"(a) report booked, 0 fills", booking("a", 0, fresh), parse(fresh, 17), 0.45},
             {"(a) report booked, 128 fills", booking("a", 128, known), parse(known, 17), 0},
             {"(a) report booked, 511 fills, of a new order", booking("a", 511, fresh), parse(fresh, 17), 0.6},
@@ -311,10 +313,6 @@ struct Bench {
             {"(i) correction entered, 0 fills", call("i", corrected(0, 0), bust, FILLS, ENTERED, 0, 101), parse(bust, 17), 0},
             {"(i) correction entered, 511 fills and 255 entries", call("i", corrected(511, ENTRIES - 1), bust, FILLS, ENTERED, 0, 101), parse(bust, 17), 0},
         };
-        printf("a report has %zu bytes, a Heartbeat %zu, a Test Request %zu; medians of %d rounds, in brackets where nine of ten lie\n\n", fresh.size(),
-               beat.size(), test.size(), rounds);
-        run(works, rounds, seconds);
-        print_ratios(works);
     }
 
     std::function<void()> listed(const string &notes) {
@@ -326,15 +324,29 @@ struct Bench {
         return [list]() { list(); };
     }
 
-    void starts() {
-        vector<Work> works = {
+    vector<Work> starts() {
+        return {
             {"(g) restart, 512 fills, 52,224 bytes", restart(notes)},
             {"(g) restart, 7,281 S notes, 65,529 bytes", restart(leaves(7281))},
             {"(h) listing of 512 fills", listed(notes)},
         };
-        run(works, rounds, seconds);
+    }
+
+    // the whole calls, without their peer
+    vector<Work> both() {
+        vector<Work> works = messages();
+        for (const Work &w : starts()) works.push_back(w);
+        return works;
+    }
+
+    void whole_calls() {
+        vector<Work> beside_peer = messages(), alone = starts();
+        printf("a report has %zu bytes; medians of %d rounds, in brackets where nine of ten lie\n\n", report(FILLS, FILLS - 1, ORDERS - 1).size(), rounds);
+        run(beside_peer, rounds, seconds);
+        print_ratios(beside_peer);
+        run(alone, rounds, seconds);
         printf("\nBeside no peer, us\n");
-        print_times(works);
+        print_times(alone);
     }
 
     // the stages of (a) that can be called by themselves
@@ -381,13 +393,26 @@ struct Bench {
     }
 };
 
+// one of the whole calls, or their names
+static int counted(const vector<string> &words) {
+    const vector<Work> works = Bench(1, 0).both();
+    if (words[0] == "--works") {
+        for (const Work &w : works) printf("%s\n", w.name.c_str());
+        return 0;
+    }
+    size_t work = words.size() == 3 ? strtoul(words[1].c_str(), nullptr, 10) : works.size();
+    if (words[0] != "--calls" || work >= works.size()) give_up("usage: bench --works, or bench --calls WORK CALLS with a WORK from 0");
+    for (long i = atol(words[2].c_str()); i > 0; i--) works[work].ours();
+    return 0;
+}
+
 int main(int argc, char **argv) {
+    if (argc > 1 && argv[1][0] == '-') return counted(vector<string>(argv + 1, argv + argc));
     int rounds = argc > 1 ? atoi(argv[1]) : 15;
     double milliseconds = argc > 2 ? atof(argv[2]) : 15;
     if (rounds < 1 || milliseconds <= 0) give_up("usage: bench [ROUNDS [MILLISECONDS]], both above 0");
     Bench bench(rounds, milliseconds / 1e3);
-    bench.messages();
-    bench.starts();
+    bench.whole_calls();
     bench.stages();
     bench.growths();
     return 0;

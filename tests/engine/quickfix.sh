@@ -1,5 +1,6 @@
 # What the programs over QuickFIX are built with: a C++ compiler and QuickFIX's headers and library. Sourced by tests/engine/run and bench/run, which have `say` and `give_up`.
 #   quickfix_for PROCESSOR    installs by name what is missing, where it can, and sets cxx to the compiler; gives up with what to install where it cannot
+#   need COMMAND PACKAGE      the same for one command of one package
 
 # runs the rest for at most $1 seconds
 within() {
@@ -20,11 +21,26 @@ has_quickfix() {
     [ -n "$cxx" ] && printf '#include <quickfix/Message.h>\n' | "$cxx" -std=c++11 -w -x c++ -fsyntax-only - >/dev/null 2>&1
 }
 
+# gives up where nothing can be installed here
+may_install() {
+    say "missing: $1"
+    if [ "$(id -u)" != 0 ] || ! command -v apt-get >/dev/null 2>&1; then
+        give_up "install it by your system's means (Debian: apt-get install $1) and run this again"
+    fi
+    say "installing it with apt-get"
+}
+
 install_packages() {
     export DEBIAN_FRONTEND=noninteractive
     # shellcheck disable=SC2086
     within 300 apt-get install -y -q $1 >/dev/null 2>&1 ||
         { within 300 apt-get update -q >/dev/null 2>&1 && within 300 apt-get install -y -q $1 >/dev/null 2>&1; }
+}
+
+need() {
+    command -v "$1" >/dev/null 2>&1 && return
+    may_install "$2"
+    install_packages "$2" && command -v "$1" >/dev/null 2>&1 || give_up "apt-get could not install $2"
 }
 
 quickfix_for() {
@@ -41,11 +57,7 @@ quickfix_for() {
     has_quickfix || missing="$missing $library"
     missing=${missing# }
     [ -n "$missing" ] || return 0
-    say "missing: $missing"
-    if [ "$(id -u)" != 0 ] || ! command -v apt-get >/dev/null 2>&1; then
-        give_up "install it by your system's means (Debian: apt-get install $missing) and run this again"
-    fi
-    say "installing it with apt-get"
+    may_install "$missing"
     [ -z "$other" ] || dpkg --add-architecture amd64 || give_up "dpkg cannot add the packages of the other processor"
     install_packages "$missing" || give_up "apt-get could not install $missing"
     # shellcheck disable=SC2086
