@@ -1,5 +1,5 @@
 -- Fills and entries stand apart: what is said of a fill is the same with a slot more that is no fill, and what is said of an entry with one that is no entry.
--- (The day's orders and fills: Orders' orders-still and fills-still.)
+-- (The day's orders and fills: Orders' orders-still and Counts' fills-still.)
 --     find-apart, sum-apart, count-apart     a slot more that does not pass
 --     exec-apart, order-apart, key-apart     no fill has the ExecID or the order of a fill, no other slot the key of an entry
 --     find-exec-apart, find-order-apart, sum-order-apart, known-apart, place-fill-apart, fill-room-apart, orders-with-apart, carried-apart, step-apart

@@ -1,7 +1,6 @@
 -- What is said of any slot, by what it is: of an entry what is said of entries, and of every other what is said of fills.
 --     entry-no-fill, fill-no-entry     it is not both
---     twins-fill, place-fill, room-fill, load-fill     a slot that is no entry
---     twins-entry, place-entry, room-entry, load-entry     an entry
+--     twins-as, place-as, room-as, load-as     by whether it is an entry
 --     new-exec, new-key, new-alone     a new slot has no twin
 --     loads     a load is its counts
 use mathlib.Core.Path.{_≡_, refl, sym, ap, _∙_}
@@ -16,7 +15,7 @@ use lib.Dec.{ltb}
 use borrow.Author.Tests.{eqb-true, ne-eqb}
 use Rattle.octet.specs.Bytes.{same}
 use Rattle.octet.specs.Maybe.{find}
-use Rattle.octet.proofs.Cases.{bool-case, contrary, cond-true, cond-false}
+use Rattle.octet.proofs.Cases.{bool-case, contrary}
 use Rattle.answer.specs.Numbers.{fault, wrongValue}
 use Rattle.answer.specs.declared.Fault.{Fault}
 use Rattle.fill.specs.Slot.{Slot, isFill, isEntry, markOf, fillMark, entryMark}
@@ -33,44 +32,24 @@ entry-no-fill s h = let e = eqb-true (markOf s) entryMark h in ne-eqb (markOf s)
 pub fill-no-entry : (s : Slot) → isFill s ≡ true → isEntry s ≡ false
 fill-no-entry s h = let e = eqb-true (markOf s) fillMark h in ne-eqb (markOf s) entryMark (λ f. omega arith)
 
--- ---- by kind
-module _ (s : Slot) (h : isEntry s ≡ false) where
-  pub twins-fill : (t : Slot) → twins s t ≡ sameExec s t
+-- ---- by kind: h says whether it is an entry
+module _ (s : Slot) {b : Bool} (h : isEntry s ≡ b) where
+  pub twins-as : (t : Slot) → twins s t ≡ cond b (sameKey s t) (sameExec s t)
   unfolding twins
-  twins-fill t = cond-false (isEntry s) (sameKey s t) (sameExec s t) h
+  twins-as t = ap (λ (x : Bool). cond x (sameKey s t) (sameExec s t)) h
 
   module _ (ss : List Slot) where
-    pub place-fill : place ss s ≡ placeFill ss s
+    pub place-as : place ss s ≡ cond b (placeEntry ss s) (placeFill ss s)
     unfolding place
-    place-fill = cond-false (isEntry s) (placeEntry ss s) (placeFill ss s) h
+    place-as = ap (λ (x : Bool). cond x (placeEntry ss s) (placeFill ss s)) h
 
-    pub room-fill : (load : Load) → hasRoom ss load s ≡ ltb (length ss) mostSlots && fillRoom ss (load .fills) (load .orders) s
+    pub room-as : (load : Load) → hasRoom ss load s ≡ ltb (length ss) mostSlots && cond b (entryRoom (load .entries)) (fillRoom ss (load .fills) (load .orders) s)
     unfolding hasRoom
-    room-fill load =
-        ap (λ (b : Bool). ltb (length ss) mostSlots && b) (cond-false (isEntry s) (entryRoom (load .entries)) (fillRoom ss (load .fills) (load .orders) s) h)
+    room-as load = ap (λ (x : Bool). ltb (length ss) mostSlots && cond x (entryRoom (load .entries)) (fillRoom ss (load .fills) (load .orders) s)) h
 
-    pub load-fill : (load : Load) → loadWith ss load s ≡ withFill ss load s
+    pub load-as : (load : Load) → loadWith ss load s ≡ cond b (withEntry load) (withFill ss load s)
     unfolding loadWith
-    load-fill load = cond-false (isEntry s) (withEntry load) (withFill ss load s) h
-
-module _ (s : Slot) (h : isEntry s ≡ true) where
-  pub twins-entry : (t : Slot) → twins s t ≡ sameKey s t
-  unfolding twins
-  twins-entry t = cond-true (isEntry s) (sameKey s t) (sameExec s t) h
-
-  module _ (ss : List Slot) where
-    pub place-entry : place ss s ≡ placeEntry ss s
-    unfolding place
-    place-entry = cond-true (isEntry s) (placeEntry ss s) (placeFill ss s) h
-
-    pub room-entry : (load : Load) → hasRoom ss load s ≡ ltb (length ss) mostSlots && entryRoom (load .entries)
-    unfolding hasRoom
-    room-entry load =
-        ap (λ (b : Bool). ltb (length ss) mostSlots && b) (cond-true (isEntry s) (entryRoom (load .entries)) (fillRoom ss (load .fills) (load .orders) s) h)
-
-    pub load-entry : (load : Load) → loadWith ss load s ≡ withEntry load
-    unfolding loadWith
-    load-entry load = cond-true (isEntry s) (withEntry load) (withFill ss load s) h
+    load-as load = ap (λ (x : Bool). cond x (withEntry load) (withFill ss load s)) h
 
 -- ---- a new slot has no twin
 -- one that was found is already booked, or at odds with what comes
@@ -102,8 +81,8 @@ find-alike p q h (s ∷ ss) = rw (h s, find-alike p q h ss)
 pub new-alone : (ss : List Slot) (s : Slot) → isNew (place ss s) ≡ true → find (twins s) ss ≡ none
 new-alone ss s n =
     ⊎-elim
-    (λ h. find-alike (twins s) (sameKey s) (twins-entry s h) ss ∙ new-key ss s (sym (ap isNew (place-entry s h ss)) ∙ n))
-    (λ h. find-alike (twins s) (sameExec s) (twins-fill s h) ss ∙ new-exec ss s (sym (ap isNew (place-fill s h ss)) ∙ n))
+    (λ h. find-alike (twins s) (sameKey s) (twins-as s h) ss ∙ new-key ss s (sym (ap isNew (place-as s h ss)) ∙ n))
+    (λ h. find-alike (twins s) (sameExec s) (twins-as s h) ss ∙ new-exec ss s (sym (ap isNew (place-as s h ss)) ∙ n))
     (bool-case (isEntry s))
 
 -- ---- a load is its counts

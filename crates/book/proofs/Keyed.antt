@@ -30,7 +30,7 @@ use Rattle.book.specs.declared.Placed.{Placed}
 use Rattle.book.specs.declared.Placed.the-variants.{Clash, Already, New}
 use Rattle.book.proofs.Slots.{slots-length}
 use Rattle.book.proofs.Finds.{known-none, known-some}
-use Rattle.book.proofs.ByKind.{place-entry, room-entry, load-entry}
+use Rattle.book.proofs.ByKind.{place-as, room-as, load-as}
 
 -- ---- the same key
 pub key-empty : (a : Slot) → sameKey a [] ≡ false
@@ -82,15 +82,15 @@ entry-counted load lf lo le =
 module _ (e : Slot) (h : isEntry e ≡ true) where
   pub entry-placed : (ss : List Slot) (twin : Slot) (r : Placed) → someSlot twin ≡ find (sameKey e) ss → r ≡ byKey e (someSlot twin) → r ≡ place ss e
   unfolding placeEntry
-  entry-placed ss twin r et er = er ∙ ap (byKey e) et ∙ sym (place-entry e h ss)
+  entry-placed ss twin r et er = er ∙ ap (byKey e) et ∙ sym (place-as e h ss)
 
   pub entry-room : (last : ℕ) (m : List ℕ) (load : Load) → ltb last mostSlots && entryRoom (load .entries) ≡ hasRoom (slotsIn last m) load e
   entry-room last m load =
-      ap (λ (n : ℕ). ltb n mostSlots && entryRoom (load .entries)) (sym (slots-length last m)) ∙ sym (room-entry e h (slotsIn last m) load)
+      ap (λ (n : ℕ). ltb n mostSlots && entryRoom (load .entries)) (sym (slots-length last m)) ∙ sym (room-as e h (slotsIn last m) load)
 
   pub entry-booking : (ss : List Slot) (load l : Load) → l ≡ stopped (withEntry load) → _≡_ {A = Booking} (record { load = l; stepped = false }) (bookingOf ss load e)
   unfolding bookingOf
   entry-booking ss load l el =
-      let a = ap stopped (load-entry e h ss load) in
+      let a = ap stopped (load-as e h ss load) in
       let b = ap (λ (t : Bool). not t && inStep ss e) h in
       cc

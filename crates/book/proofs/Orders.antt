@@ -1,10 +1,8 @@
--- The day's orders as a list, and the fills among the slots: what the counts by value count.
+-- The day's orders as a list: what the count by value counts.
 --     among-known     an order is known exactly where its OrderID is among those of the slots
 --     orders-more     a fill more: the same list, or its OrderID at the end
 --     orders-counted     so the count that is kept is its length, with one fill more
---     fills-counted     and the count of fills that of the slots that are fills
---     orders-still, fills-still     a slot more that is no fill changes neither
---     fills-most     they are at most as many as there are slots
+--     orders-still     a slot more that is no fill changes nothing
 use mathlib.Core.Path.{_≡_, refl, sym, ap, ap₂, _∙_}
 use mathlib.Core.List.{List, [], _∷_, _++_}
 use mathlib.Core.Option.{some}
@@ -17,8 +15,8 @@ use Rattle.octet.specs.Maybe.{find, isNone}
 use Rattle.octet.proofs.Cases.{of-cond, cond-false}
 use Rattle.octet.proofs.Lists.{same-true}
 use Rattle.fill.specs.Slot.{Slot, isFill, orderOf}
-use Rattle.book.specs.Place.{sameOrder, knownOrder, fillsWith, ordersWith}
-use Rattle.book.specs.Orders.{isAmong, withOrder, ordersAfter, ordersOf, fillsAfter, fillsOf}
+use Rattle.book.specs.Place.{sameOrder, knownOrder, ordersWith}
+use Rattle.book.specs.Orders.{isAmong, withOrder, ordersAfter, ordersOf}
 
 or-assoc : (a b c : Bool) → (a || b) || c ≡ a || (b || c)
 or-assoc true b c = refl
@@ -97,26 +95,3 @@ orders-counted ss f e = by (knownOrder ss f) ∙ sym (ap length (orders-more ss 
     by : (b : Bool) → cond b (length (ordersOf ss)) (length (ordersOf ss) + 1) ≡ length (cond b (ordersOf ss) (ordersOf ss ++ (orderOf f ∷ [])))
     by true = refl
     by false = sym (length-append (ordersOf ss) (orderOf f ∷ []))
-
--- ---- the fills
-fills-end : (n : ℕ) (ss : List Slot) (s : Slot) → fillsAfter n (ss ++ (s ∷ [])) ≡ fillsWith (fillsAfter n ss) s
-unfolding fillsAfter
-fills-end n [] s = refl
-fills-end n (x ∷ ss) s = fills-end (fillsWith n x) ss s
-
-pub fills-counted : (ss : List Slot) (s : Slot) → fillsOf (ss ++ (s ∷ [])) ≡ fillsWith (fillsOf ss) s
-fills-counted ss s = fills-end 0 ss s
-
-pub fills-still : (ss : List Slot) (s : Slot) → isFill s ≡ false → fillsOf (ss ++ (s ∷ [])) ≡ fillsOf ss
-fills-still ss s h = fills-counted ss s ∙ cond-false (isFill s) (fillsOf ss + 1) (fillsOf ss) h
-
-fills-below : (n : ℕ) (ss : List Slot) → fillsAfter n ss ≤ n + length ss
-unfolding fillsAfter
-fills-below n [] = omega arith
-fills-below n (s ∷ ss) =
-    let a : fillsWith n s ≤ n + 1 = of-cond (λ (k : ℕ). k ≤ n + 1) (isFill s) (λ e. omega arith) (λ e. omega arith) in
-    let b = fills-below (fillsWith n s) ss in
-    omega arith
-
-pub fills-most : (ss : List Slot) → fillsOf ss ≤ length ss
-fills-most ss = omega (arith, fills-below 0 ss)

@@ -41,7 +41,7 @@ use Rattle.book.specs.declared.Admitted.{Admitted}
 use Rattle.book.specs.declared.Admitted.the-variants as admitted
 use Rattle.book.proofs.Slots.{slots-length}
 use Rattle.book.proofs.Finds.{known-none, known-some}
-use Rattle.book.proofs.ByKind.{loads, place-fill, room-fill, room-entry, load-fill, load-entry}
+use Rattle.book.proofs.ByKind.{loads, place-as, room-as, load-as}
 
 pub contents-by : (f k : Slot) {a b d e g : Bool} → same (orderOf f) (orderOf k) ≡ a → sameSymbol f k ≡ b → sameSide f k ≡ d → eqb (sharesOf f) (sharesOf k) ≡ e → eqb (priceOf f) (priceOf k) ≡ g
     → a && b && d && e && g ≡ sameContents f k
@@ -116,7 +116,7 @@ module _ (last : ℕ) (load : Load) (k : Slot) where
   unfolding fillRoom knownOrder
   room-by m f h e =
       ap₂ (λ (n : ℕ) (o : Option Slot). ltb n mostSlots && (ltb (load .fills) mostFills && (not (isNone o) || ltb (load .orders) mostOrders))) (sym (slots-length last m)) e
-      ∙ sym (room-fill f h (slotsIn last m) load)
+      ∙ sym (room-as f h (slotsIn last m) load)
 
 -- what room says: of a slot after the last in any case
 pub record Room (ss : List Slot) (load : Load) (s : Slot) : Type 0 where
@@ -131,13 +131,13 @@ has-room ss load s e =
     let fills = ltb (load .fills) mostFills in
     let order = knownOrder ss s || ltb (load .orders) mostOrders in
     let both : isEntry s ≡ false → (fills ≡ true) × (order ≡ true)
-    = λ h. and-both fills order (and-both (ltb (length ss) mostSlots) (fills && order) (sym (room-fill s h ss load) ∙ e) .1) in
+    = λ h. and-both fills order (and-both (ltb (length ss) mostSlots) (fills && order) (sym (room-as s h ss load) ∙ e) .1) in
     record {
       slot-left = ltb-true (length ss) mostSlots (and-both (ltb (length ss) mostSlots) (cond (isEntry s) (entryRoom (load .entries)) (fills && order)) e .0);
       few-fills = λ h. ltb-true (load .fills) mostFills (both h .0);
       order-left = λ h. both h .1;
       few-entries = λ h. ltb-true (load .entries) mostEntries
-          (and-both (ltb (length ss) mostSlots) (entryRoom (load .entries)) (sym (room-entry s h ss load) ∙ e) .1);
+          (and-both (ltb (length ss) mostSlots) (entryRoom (load .entries)) (sym (room-as s h ss load) ∙ e) .1);
     }
 
 -- ---- the counts
@@ -175,7 +175,7 @@ module _ (ss : List Slot) (load : Load) (f k : Slot) (found : someSlot k ≡ fin
   booking-by m n step h le em en es =
       let eo = en ∙ orders-by in
       let ee : load .entries ≡ min (load .entries) largest = omega arith in
-      let el = ap stopped (load-fill f h ss load) in
+      let el = ap stopped (load-as f h ss load) in
       let eb = ap (λ (b : Bool). not b && inStep ss f) h in
       cc
 
@@ -190,7 +190,7 @@ booking-load ss load s lf lo le r =
     let ef : min (load .fills) largest ≡ load .fills = omega arith in
     let eo : min (load .orders) largest ≡ load .orders = omega arith in
     let ee : min (load .entries + 1) largest ≡ load .entries + 1 = omega arith in
-    let el = load-entry s h ss load in
+    let el = load-as s h ss load in
     ap stopped el ∙ loads ef eo ee ∙ sym el))
     (λ h. (let n = room .few-fills h in
     let ef : min (fillsWith (load .fills) s) largest ≡ fillsWith (load .fills) s =
@@ -202,7 +202,7 @@ booking-load ss load s lf lo le r =
     of-cond (λ (x : ℕ). x ≤ largest) (knownOrder ss s) (λ e. lo) (λ e. omega arith)))
     (or-cases (knownOrder ss s) (ltb (load .orders) mostOrders) (room .order-left h))) in
     let ee : min (load .entries) largest ≡ load .entries = omega arith in
-    let el = load-fill s h ss load in
+    let el = load-as s h ss load in
     ap stopped el ∙ loads ef eo ee ∙ sym el))
     (bool-case (isEntry s))
 
@@ -210,7 +210,7 @@ booking-load ss load s lf lo le r =
 pub placed-by : (ss : List Slot) (f twin known : Slot) (r : Placed) → isEntry f ≡ false → someSlot twin ≡ find (sameExec f) ss → someSlot known ≡ find (sameOrder f) ss
     → ((tt : List Slot) → someSlot known ≡ find (sameOrder f) tt → r ≡ byExec tt f (someSlot twin)) → r ≡ place ss f
 unfolding placeFill
-placed-by ss f twin known r h et ek er = er ss ek ∙ ap (byExec ss f) et ∙ sym (place-fill f h ss)
+placed-by ss f twin known r h et ek er = er ss ek ∙ ap (byExec ss f) et ∙ sym (place-as f h ss)
 
 -- ---- what becomes of a slot
 module _ (ss : List Slot) (load : Load) (s : Slot) where

@@ -5,7 +5,6 @@ use mathlib.Core.Bool.{Bool, false, cond, _&&_, _||_, not}
 use lib.ListN.{length}
 use Rattle.octet.specs.Bytes.{same}
 use Rattle.fill.specs.Slot.{Slot, isFill, isEntry, orderOf}
-use Rattle.book.specs.Place.{fillsWith}
 use Rattle.book.specs.declared.Load.{Load}
 
 -- whether an OrderID is among some
@@ -25,18 +24,13 @@ ordersAfter ids (s ∷ ss) = ordersAfter (withOrder ids s) ss
 abbrev pub ordersOf : List Slot → List (List ℕ)
 ordersOf ss = ordersAfter [] ss
 
--- how many of the slots are fills
-unfoldable pub fillsAfter : ℕ → List Slot → ℕ
-fillsAfter n [] = n
-fillsAfter n (s ∷ ss) = fillsAfter (fillsWith n s) ss
-
-abbrev pub fillsOf : List Slot → ℕ
-fillsOf ss = fillsAfter 0 ss
-
--- how many of the slots are such, and so how many are entries
+-- how many of the slots are such, and so how many are fills, and entries
 unfoldable pub countWhere : (Slot → Bool) → List Slot → ℕ
 countWhere p [] = 0
 countWhere p (s ∷ ss) = cond (p s) 1 0 + countWhere p ss
+
+abbrev pub fillsOf : List Slot → ℕ
+fillsOf ss = countWhere isFill ss
 
 abbrev pub entriesOf : List Slot → ℕ
 entriesOf ss = countWhere isEntry ss

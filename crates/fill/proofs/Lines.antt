@@ -1,4 +1,5 @@
 -- A slot's line of the listing: how it is written word by word, and how long it is.
+--     fill-digits, entry-digits     by how many digits its numbers have
 --     line-short     a line has at most lineRoom bytes, 128
 use mathlib.Core.Path.{_≡_, refl, ap, _∙_}
 use mathlib.Core.List.{List, [], _∷_, _++_, append-assoc}
@@ -66,33 +67,30 @@ pub text-most : (width : ℕ) (f : List ℕ) → length f ≤ suc width → leng
 unfolding textOf
 text-most width f h = rw (length-take, length-drop) (omega arith)
 
-price-most : (p : ℕ) → p < 256 ^ 8 → length (priceText p) ≤ 21
-unfolding priceText
-price-most p h =
-    let d = decimal-length 15 (p / 10000) (omega arith) in
+-- by how many digits its numbers have after their first
+pub fill-digits : (a b d e n : ℕ) (s : Slot) → n < 10 ^ suc a → sideOf s < 10 ^ suc b → sharesOf s < 10 ^ suc d → priceOf s / 10000 < 10 ^ suc e
+    → length (fillLine n s) ≤ 86 + (a + b + d + e)
+unfolding fillLine priceText
+fill-digits a b d e n s hn hs hq hp =
+    let number = decimal-length a n hn in
+    let exec = text-most 20 (execOf s) (part-most (placeOf 0) (widthOf 0) s) in
+    let order = text-most 20 (orderOf s) (part-most (placeOf 1) (widthOf 1) s) in
+    let symbol = text-most 8 (symbolOf s) (part-most (placeOf 2) (widthOf 2) s) in
+    let side = decimal-length b (sideOf s) hs in
+    let shares = decimal-length d (sharesOf s) hq in
+    let price = decimal-length e (priceOf s / 10000) hp in
+    let time = part-most (placeOf 8) (widthOf 8) s in
     simp (length-append, fixed-length) (omega arith)
 
-fill-by : (n : ℕ) (s : Slot) → n < 256 ^ 4 → sideOf s < 256 → sharesOf s < 256 ^ 4 → priceOf s < 256 ^ 8 → length (fillLine n s) ≤ 121
-unfolding fillLine
-fill-by n s hn hs hq hp =
-    let a = decimal-length 9 n (omega arith) in
-    let b = text-most 20 (execOf s) (part-most (placeOf 0) (widthOf 0) s) in
-    let d = text-most 20 (orderOf s) (part-most (placeOf 1) (widthOf 1) s) in
-    let e = text-most 8 (symbolOf s) (part-most (placeOf 2) (widthOf 2) s) in
-    let f = decimal-length 2 (sideOf s) (omega arith) in
-    let g = decimal-length 9 (sharesOf s) (omega arith) in
-    let h = price-most (priceOf s) hp in
-    let i = part-most (placeOf 8) (widthOf 8) s in
-    simp length-append (omega arith)
-
-entry-by : (n : ℕ) (s : Slot) → n < 256 ^ 4 → numberOf s < 256 ^ 4 → entrySideOf s < 256 → transactionOf s < 256 → length (entryLine n s) ≤ 53
+pub entry-digits : (a b d e n : ℕ) (s : Slot) → n < 10 ^ suc a → numberOf s < 10 ^ suc b → entrySideOf s < 10 ^ suc d → transactionOf s < 10 ^ suc e
+    → length (entryLine n s) ≤ 31 + (a + b + d + e)
 unfolding entryLine
-entry-by n s hn hk hs ht =
-    let a = decimal-length 9 n (omega arith) in
-    let b = text-most 20 (tradeOf s) (part-most (entryPlaceOf 0) (entryWidthOf 0) s) in
-    let d = decimal-length 9 (numberOf s) (omega arith) in
-    let e = decimal-length 2 (entrySideOf s) (omega arith) in
-    let f = decimal-length 2 (transactionOf s) (omega arith) in
+entry-digits a b d e n s hn hk hs ht =
+    let number = decimal-length a n hn in
+    let trade = text-most 20 (tradeOf s) (part-most (entryPlaceOf 0) (entryWidthOf 0) s) in
+    let correction = decimal-length b (numberOf s) hk in
+    let side = decimal-length d (entrySideOf s) hs in
+    let transaction = decimal-length e (transactionOf s) ht in
     simp length-append (omega arith)
 
 -- numbers of bytes fit
@@ -120,8 +118,10 @@ line-short n s h b =
     let code = number-most (entryPlaceOf 2) (entryWidthOf 2) s b in
     let kind = number-most (entryPlaceOf 3) (entryWidthOf 3) s b in
     let side = number-most (placeOf 3) (widthOf 3) s b in
-    let e = entry-by n s h number (omega arith) (omega arith) in
-    let f = fill-by n s h (omega arith) (number-most (placeOf 5) (widthOf 5) s b) (number-most (placeOf 6) (widthOf 6) s b) in
+    let shares = number-most (placeOf 5) (widthOf 5) s b in
+    let price = number-most (placeOf 6) (widthOf 6) s b in
+    let e = entry-digits 9 9 2 2 n s (omega arith) (omega arith) (omega arith) (omega arith) in
+    let f = fill-digits 9 2 9 15 n s (omega arith) (omega arith) (omega arith) (omega arith) in
     of-cond (λ (l : List ℕ). length l ≤ lineRoom) (isEntry s) (λ y. omega arith) (λ y. omega arith)
 
 -- so a text holds it whole

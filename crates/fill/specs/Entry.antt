@@ -1,5 +1,5 @@
 -- An entry is a slot too: what a Trade Cancel/Correct says beside the trade that it changes. Its parts, its key, when it is lawful, and its line of the listing.
-use Prim.Native.Nat.{ℕ, _+_}
+use Prim.Native.Nat.{ℕ}
 use mathlib.Core.List.{List, [], _∷_, _++_}
 use mathlib.Core.Bool.{Bool, _&&_}
 use lib.ListN.{getD, take}
@@ -11,7 +11,7 @@ use Rattle.parts.specs.Parts.{Part, Text, Number, Raw, Value, Bytes, Count, wid
 use Rattle.answer.specs.Numbers.{nineDigits, mostContracts}
 use Rattle.text.specs.Decimal.{decimal}
 use Rattle.value.specs.Value.{isTime}
-use Rattle.fill.specs.Slot.{Slot, entryMark, fullTime, textLawful, mostPrice, spaced, lineFeed}
+use Rattle.fill.specs.Slot.{Slot, entryMark, fullTime, placeIn, fieldIn, textLawful, mostPrice, spaced, lineFeed}
 
 -- TradeID (1003), CorrectionNum (9021), Side (54), ExecTransType (20), CorrectionType (9020), ExecID (17), LastShares (32), LastPX (31) and TransactTime (60)
 pub record Entry : Type 0 where
@@ -68,10 +68,10 @@ entrySlot e = entryMark ∷ entryBody e
 -- ---- the parts of a slot that is an entry
 
 abbrev pub entryPlaceOf : ℕ → ℕ
-entryPlaceOf i = 1 + sumOf (take i entryWidths)
+entryPlaceOf i = placeIn entryWidths i
 
 abbrev pub entryField : ℕ → Slot → List ℕ
-entryField i s = part (entryPlaceOf i) (entryWidthOf i) s
+entryField i s = fieldIn entryWidths i s
 
 abbrev pub tradeOf : Slot → List ℕ
 tradeOf s = entryField 0 s

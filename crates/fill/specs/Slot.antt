@@ -89,12 +89,19 @@ isEntry s = eqb (markOf s) entryMark
 
 -- ---- the parts of a slot
 
--- where part i stands: after the byte that says fill, one after another
+-- where part i of those widths stands: after the byte that says what the slot is, one after another
+abbrev pub placeIn : List ℕ → ℕ → ℕ
+placeIn ws i = 1 + sumOf (take i ws)
+
+abbrev pub fieldIn : List ℕ → ℕ → Slot → List ℕ
+fieldIn ws i s = part (placeIn ws i) (getD ws i 0) s
+
+-- of a fill
 abbrev pub placeOf : ℕ → ℕ
-placeOf i = 1 + sumOf (take i widths)
+placeOf i = placeIn widths i
 
 abbrev pub field : ℕ → Slot → List ℕ
-field i s = part (placeOf i) (widthOf i) s
+field i s = fieldIn widths i s
 
 abbrev pub execOf : Slot → List ℕ
 execOf s = field 0 s

@@ -14,8 +14,7 @@ use Rattle.fill.specs.Slot.{Slot, isFill, isEntry, sharesOf, fillLine}
 use Rattle.fill.proofs.Lawful.{no-entry}
 use Rattle.fill.proofs.Lines.{line-fill}
 use Rattle.book.specs.Place.{sumWhere}
-use Rattle.book.specs.Orders.{countWhere, entriesOf}
-use Rattle.book.proofs.Counts.{fills-are}
+use Rattle.book.specs.Orders.{countWhere, fillsOf, entriesOf}
 use Rattle.note.specs.Kept.{Kept, waiting}
 use Rattle.note.proofs.Keeping.{AllSlots, entries-all}
 use Rattle.restart.specs.Restart.{Again, restart}
@@ -38,7 +37,7 @@ fills-drop zero ss h = h
 fills-drop (suc k) [] h = tt
 fills-drop (suc k) (s ∷ ss) h = fills-drop k ss (h .1)
 
-all-counted : (ss : List Slot) → AllFills ss → countWhere isFill ss ≡ length ss
+all-counted : (ss : List Slot) → AllFills ss → fillsOf ss ≡ length ss
 unfolding countWhere
 all-counted [] h = refl
 all-counted (s ∷ ss) h = omega (arith, cond-true {A = ℕ} (isFill s) 1 0 (h .0), all-counted ss (h .1))
@@ -53,7 +52,7 @@ pub no-entries : (acked : ℕ) (ss : List Slot) → AllFills ss
 no-entries acked ss h =
     let ws = drop acked ss in
     let w = fills-drop acked ss h in
-    ap₂ (λ (n : ℕ) (x : List ℕ). firstOf n (contracts ws) ++ x) (fills-are ws ∙ all-counted ws w) (lines-of-fills (acked + 1) ws w)
+    ap₂ (λ (n : ℕ) (x : List ℕ). firstOf n (contracts ws) ++ x) (all-counted ws w) (lines-of-fills (acked + 1) ws w)
 
 -- where no entry is counted, each slot is a fill
 all-fills : (ss : List Slot) → AllSlots ss → entriesOf ss ≡ 0 → AllFills ss
@@ -79,11 +78,11 @@ unfolding onlyFills
 only-all [] = tt
 only-all (s ∷ ss) = of-cond AllFills (isFill s) (λ e. (e, only-all ss)) (λ e. only-all ss)
 
-only-count : (ss : List Slot) → countWhere isFill (onlyFills ss) ≡ countWhere isFill ss
+only-count : (ss : List Slot) → fillsOf (onlyFills ss) ≡ fillsOf ss
 unfolding onlyFills countWhere
 only-count [] = refl
 only-count (s ∷ ss) =
-    of-cond (λ (l : List Slot). countWhere isFill l ≡ cond (isFill s) 1 0 + countWhere isFill ss) (isFill s)
+    of-cond (λ (l : List Slot). fillsOf l ≡ cond (isFill s) 1 0 + fillsOf ss) (isFill s)
     (λ e. ap (λ (n : ℕ). cond (isFill s) 1 0 + n) (only-count ss))
     (λ e. omega (arith, cond-false {A = ℕ} (isFill s) 1 0 e, only-count ss))
 
@@ -96,8 +95,8 @@ only-sum (s ∷ ss) =
     (λ e. omega (arith, cond-false (isFill s) (sharesOf s) 0 e, only-sum ss))
 
 pub first-of-fills : (ss : List Slot) → firstLine ss ≡ firstLine (onlyFills ss)
-first-of-fills ss = sym (ap₂ firstOf (fills-are (onlyFills ss) ∙ only-count ss ∙ sym (fills-are ss)) (only-sum ss))
+first-of-fills ss = sym (ap₂ firstOf (only-count ss) (only-sum ss))
 
 -- so it says how many these are
 pub first-counts : (ss : List Slot) → firstLine ss ≡ firstOf (length (onlyFills ss)) (contracts (onlyFills ss))
-first-counts ss = first-of-fills ss ∙ ap (λ (n : ℕ). firstOf n (contracts (onlyFills ss))) (fills-are (onlyFills ss) ∙ all-counted (onlyFills ss) (only-all ss))
+first-counts ss = first-of-fills ss ∙ ap (λ (n : ℕ). firstOf n (contracts (onlyFills ss))) (all-counted (onlyFills ss) (only-all ss))

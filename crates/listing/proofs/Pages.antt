@@ -1,6 +1,6 @@
 -- Laws of the listing: no listing has more than 65,536 bytes; its first line counts the waiting fills and their contracts; and the loops that count
 -- the fills, sum the contracts and write the lines.
-use Prim.Native.Nat.{ℕ, zero, suc, _+_, _-_, _*_, _/_, _≤_, _<_, _^_, min}
+use Prim.Native.Nat.{ℕ, zero, suc, _+_, _-_, _*_, _≤_, _<_, _^_, min}
 use mathlib.Core.Path.{_≡_, sym, ap, ap₂, _∙_, subst}
 use mathlib.Core.List.{List, [], _∷_, _++_}
 use mathlib.Core.Logic.{⊎-elim}
@@ -14,19 +14,13 @@ use borrow.Author.Tests.{leb-true, ltb-false, lt-ltb, le-ltb}
 use Rattle.octet.specs.Bytes.{between, part}
 use Rattle.octet.specs.Splice.{splice, fitsAt}
 use Rattle.octet.proofs.Cases.{bool-case, of-cond, cond-true, cond-false, and-both, and-left, and-right}
-use Rattle.octet.proofs.Lists.{part-most, between-high, splice-join, splice-then, splice-nil, splice-read, splice-length, fits-true}
-use Rattle.text.specs.Decimal.{priceText}
-use Rattle.text.proofs.Decimals.{decimal-length, fixed-length}
+use Rattle.octet.proofs.Lists.{between-high, splice-join, splice-then, splice-nil, splice-read, splice-length, fits-true}
+use Rattle.text.proofs.Decimals.{decimal-length}
 use Rattle.value.specs.Value.{isTime}
 use Rattle.fill.specs.Slot.{
   Slot,
-  placeOf,
-  widthOf,
   isFill,
   isEntry,
-  execOf,
-  orderOf,
-  symbolOf,
   sideOf,
   sharesOf,
   priceOf,
@@ -38,9 +32,6 @@ use Rattle.fill.specs.Slot.{
   fillLine,
 }
 use Rattle.fill.specs.Entry.{
-  entryPlaceOf,
-  entryWidthOf,
-  tradeOf,
   numberOf,
   entrySideOf,
   transactionOf,
@@ -56,14 +47,13 @@ use Rattle.fill.specs.Entry.{
 use Rattle.fill.specs.Booked.{IsSlot, slotLawful, lineOf}
 use Rattle.answer.specs.Numbers.{nineDigits, mostContracts, largest}
 use Rattle.fill.proofs.Lawful.{lawful-sums, lawful-fill, lawful-entry, no-entry}
-use Rattle.fill.proofs.Lines.{text-most, line-fill, line-entry}
+use Rattle.fill.proofs.Lines.{fill-digits, entry-digits, line-fill, line-entry}
 use Rattle.book.specs.Memory.{mostSlots, slotsIn, slotAt}
-use Rattle.book.specs.Place.{mostFills, sumWhere, fillsWith}
+use Rattle.book.specs.Place.{mostFills, sumWhere}
 use Rattle.book.specs.Entries.{mostEntries}
-use Rattle.book.specs.Orders.{fillsAfter, fillsOf, countWhere, entriesOf}
+use Rattle.book.specs.Orders.{fillsOf, countWhere, entriesOf}
 use Rattle.book.proofs.Slots.{slots-length, slots-step, slots-end}
-use Rattle.book.proofs.Orders.{fills-most}
-use Rattle.book.proofs.Counts.{fills-are, count-split}
+use Rattle.book.proofs.Counts.{count-most, count-split}
 use Rattle.note.specs.Kept.{Kept, waiting}
 use Rattle.note.proofs.Keeping.{AllSlots, AllLawful, fills-all, entries-all}
 use Rattle.restart.specs.Restart.{Outcome, Again, Unlawful, restart, countsOf, told, bookAfter, HasSlots}
@@ -93,21 +83,12 @@ lawful-shares s t =
     omega arith
 
 pub fill-line-most : (n : ℕ) (s : Slot) → n < 1000 → fillLawful s ≡ true → length (fillLine n s) ≤ 99
-unfolding fillLine priceText
 fill-line-most n s hn t =
     let z = fill-figures s t in
-    let q = lawful-shares s t in
-    let p = z .1 in
-    let w = z .0 in
-    let a = decimal-length 2 n (omega arith) in
-    let b = text-most 20 (execOf s) (part-most (placeOf 0) (widthOf 0) s) in
-    let d = text-most 20 (orderOf s) (part-most (placeOf 1) (widthOf 1) s) in
-    let e = text-most 8 (symbolOf s) (part-most (placeOf 2) (widthOf 2) s) in
-    let f = decimal-length 0 (sideOf s) (omega arith) in
-    let g = decimal-length 5 (sharesOf s) (omega arith) in
-    let h = decimal-length 6 (priceOf s / 10000) (omega arith) in
-    let i = part-most (placeOf 8) (widthOf 8) s in
-    simp (length-append, fixed-length) (omega arith)
+    let shares = lawful-shares s t in
+    let side = z .0 in
+    let price = z .1 in
+    fill-digits 2 0 5 6 n s (omega arith) (omega arith) (omega arith) (omega arith)
 
 entry-codes : (s : Slot) → entryLawful s ≡ true → (numberOf s ≤ nineDigits) × (entrySideOf s ≤ 2) × (transactionOf s ≤ 2)
 unfolding entryLawful
@@ -125,18 +106,12 @@ entry-codes s t =
     (leb-true (numberOf s) nineDigits (f .0), between-high 1 2 (entrySideOf s) (f .1), leb-true (transactionOf s) 2 (e .1))
 
 pub entry-line-most : (n : ℕ) (s : Slot) → n < 1000 → entryLawful s ≡ true → length (entryLine n s) ≤ 41
-unfolding entryLine
 entry-line-most n s hn t =
     let z = entry-codes s t in
-    let p = z .0 in
-    let q = z .1 in
-    let w = z .2 in
-    let a = decimal-length 2 n (omega arith) in
-    let b = text-most 20 (tradeOf s) (part-most (entryPlaceOf 0) (entryWidthOf 0) s) in
-    let d = decimal-length 8 (numberOf s) (omega arith) in
-    let e = decimal-length 0 (entrySideOf s) (omega arith) in
-    let f = decimal-length 0 (transactionOf s) (omega arith) in
-    simp length-append (omega arith)
+    let number = z .0 in
+    let side = z .1 in
+    let transaction = z .2 in
+    entry-digits 2 8 0 0 n s (omega arith) (omega arith) (omega arith) (omega arith)
 
 -- by its first byte
 line-of-entry : (n : ℕ) (s : Slot) → n < 1000 → slotLawful s ≡ true → isEntry s ≡ true → length (lineOf n s) ≤ 41
@@ -199,9 +174,9 @@ printed-most most (Again q whole) h g =
     let w = all-drop (q .acked) ss (g .sound .each) (g .sound .proper) in
     let l = length-drop (q .acked) ss in
     let c = sum-most ws (w .1) in
-    let a = first-most (fillsOf ws) (contracts ws) (omega (arith, fills-most ws)) (omega arith) in
+    let a = first-most (fillsOf ws) (contracts ws) (omega (arith, count-most isFill ws)) (omega arith) in
     let b = lines-most ws (q .acked + 1) (omega arith) (w .0) (w .1) in
-    let fills : countWhere isFill ws ≤ mostFills = omega (arith, count-split isFill (q .acked) ss, fills-are ss, fills-all q (g .sound), g .sound .fills-few) in
+    let fills : fillsOf ws ≤ mostFills = omega (arith, count-split isFill (q .acked) ss, fills-all q (g .sound), g .sound .fills-few) in
     let entries : entriesOf ws ≤ mostEntries = omega (arith, count-split isEntry (q .acked) ss, entries-all q (g .sound), g .sound .entries-few) in
     omega (arith, length-append (firstLine ws) (linesFrom (q .acked + 1) ws))
 
@@ -229,15 +204,13 @@ listing-counts notes q whole h e = listing-is notes h ∙ ap printed e
 
 -- ---- the loops: the slots from the i-th on
 module _ (n i : ℕ) (m : List ℕ) where
-  pub count-step : (fills : ℕ) (s : Slot) → i < n → s ≡ slotAt i m
-      → fillsAfter (fillsWith fills s) (drop (i + 1) (slotsIn n m)) ≡ fillsAfter fills (drop i (slotsIn n m))
-  unfolding fillsAfter
-  count-step fills s h e =
-      ap (λ (x : Slot). fillsAfter (fillsWith fills x) (drop (i + 1) (slotsIn n m))) e ∙ sym (ap (fillsAfter fills) (slots-step n i m h))
+  pub count-step : (s : Slot) → i < n → s ≡ slotAt i m → fillsOf (drop i (slotsIn n m)) ≡ cond (isFill s) 1 0 + fillsOf (drop (i + 1) (slotsIn n m))
+  unfolding countWhere
+  count-step s h e = ap fillsOf (slots-step n i m h) ∙ ap (λ (x : Slot). cond (isFill x) 1 0 + fillsOf (drop (i + 1) (slotsIn n m))) (sym e)
 
-  pub count-done : (fills : ℕ) → n ≤ i → fillsAfter fills (drop i (slotsIn n m)) ≡ fills
-  unfolding fillsAfter
-  count-done fills h = ap (fillsAfter fills) (slots-end n i m h)
+  pub count-done : n ≤ i → fillsOf (drop i (slotsIn n m)) ≡ 0
+  unfolding countWhere
+  count-done h = ap fillsOf (slots-end n i m h)
 
   pub sum-step : (s : Slot) → i < n → s ≡ slotAt i m
       → contracts (drop i (slotsIn n m)) ≡ cond (isFill s) (sharesOf s) 0 + contracts (drop (i + 1) (slotsIn n m))
@@ -406,7 +379,7 @@ module _ (f k fills sum end : ℕ) (book page page₁ : List ℕ) (t : Text) whe
       → (page₁ ≡ splice page 0 (firstLine (drop k (slotsIn f book)))) × (end ≡ length (firstLine (drop k (slotsIn f book)))) × (end + length (linesIn k f book) ≤ length page₁)
   headed hk hf room ec es hs et ep en =
       let first = firstLine (drop k (slotsIn f book)) in
-      let few : fills ≤ f = omega (arith, fills-most (drop k (slotsIn f book)), length-drop k (slotsIn f book), slots-length f book) in
+      let few : fills ≤ f = omega (arith, count-most isFill (drop k (slotsIn f book)), length-drop k (slotsIn f book), slots-length f book) in
       let ex : firstOf fills sum ≡ first = ap₂ firstOf ec es in
       let short = first-most fills sum (omega arith) (omega arith) in
       let lx = ap length ex in

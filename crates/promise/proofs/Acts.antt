@@ -29,7 +29,7 @@ use Rattle.fill.specs.Slot.{Slot, isEntry}
 use Rattle.fill.specs.Booked.{IsSlot, lineOf, slotLawful}
 use Rattle.book.specs.Place.{isNew}
 use Rattle.book.specs.Admitting.{place, hasRoom, noLoad}
-use Rattle.book.specs.Orders.{ordersAfter, fillsAfter, countWhere, loadOf}
+use Rattle.book.specs.Orders.{ordersAfter, countWhere, loadOf}
 use Rattle.book.proofs.ByKind.{fill-no-entry}
 use Rattle.book.specs.declared.Placed.{Placed}
 use Rattle.book.specs.declared.Placed.the-variants as placed
@@ -385,7 +385,7 @@ nil-of [] h = refl
 nil-of (x ∷ l) h = absurd (suc-ne-zero (length l) h)
 
 empty-path : (q : Kept) → Safe q → isEmpty q ≡ true → empty ≡ q
-unfolding fillsAfter ordersAfter countWhere
+unfolding ordersAfter countWhere
 empty-path q safe h =
     let a = and-both (eqb (q .e) 1 && eqb (q .o) 1 && eqb (length (q .slots)) 0) (eqb (q .acked) 0) h in
     let b = and-both (eqb (q .e) 1 && eqb (q .o) 1) (eqb (length (q .slots)) 0) (a .0) in

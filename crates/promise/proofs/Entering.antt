@@ -23,9 +23,10 @@ use Rattle.book.specs.Admitting.{place, hasRoom, loadWith, withEntry}
 use Rattle.book.specs.declared.Load.{Load}
 use Rattle.book.specs.declared.Placed.{Placed}
 use Rattle.book.specs.declared.Placed.the-variants as placed
-use Rattle.book.proofs.ByKind.{entry-no-fill, place-fill, room-fill, load-entry}
+use Rattle.book.proofs.ByKind.{entry-no-fill, place-as, room-as, load-as}
 use Rattle.book.proofs.Placing.{has-room}
-use Rattle.book.proofs.Orders.{orders-still, fills-still}
+use Rattle.book.proofs.Orders.{orders-still}
+use Rattle.book.proofs.Counts.{fills-still}
 use Rattle.book.proofs.Apart.{find-exec-apart, find-order-apart, sum-order-apart, place-fill-apart, fill-room-apart, step-apart}
 use Rattle.note.specs.Kept.{after}
 use Rattle.note.proofs.Keeping.{Sound, slots-split}
@@ -102,16 +103,16 @@ module _ (st : State) (sound : Sound (st .kept)) (e : Slot) (is : isEntry e ≡ 
     room-same : hasRoom (ss ++ (e ∷ [])) (loadWith ss load e) f ≡ hasRoom ss load f
     room-same =
         let room : Bool = fillRoom ss (load .fills) (load .orders) f in
-        ap (λ (l : Load). hasRoom (ss ++ (e ∷ [])) l f) (load-entry e is ss load)
-        ∙ room-fill f other (ss ++ (e ∷ [])) (withEntry load)
+        ap (λ (l : Load). hasRoom (ss ++ (e ∷ [])) l f) (load-as e is ss load)
+        ∙ room-as f other (ss ++ (e ∷ [])) (withEntry load)
         ∙ ap₂ (λ (n : ℕ) (b : Bool). ltb n mostSlots && b) longer (fill-room-apart e (entry-no-fill e is) ss f (load .fills) (load .orders))
         ∙ either (ltb (length ss + 1) mostSlots) (ltb (length ss) mostSlots) room
         (λ t. lt-ltb (length ss + 1) mostSlots (slot-left t))
         (λ t. lt-ltb (length ss) mostSlots (let l = slot-left t in omega arith))
-        ∙ sym (room-fill f other ss load)
+        ∙ sym (room-as f other ss load)
 
     place-same : place (ss ++ (e ∷ [])) f ≡ place ss f
-    place-same = place-fill f other (ss ++ (e ∷ [])) ∙ place-fill-apart e (entry-no-fill e is) ss f ∙ sym (place-fill f other ss)
+    place-same = place-as f other (ss ++ (e ∷ [])) ∙ place-fill-apart e (entry-no-fill e is) ss f ∙ sym (place-as f other ss)
 
     becomes-same : (n : ℕ) → becomes (withSlot st e) (This n f) ≡ becomes (afterHearing st) (This n f)
     unfolding becomes after

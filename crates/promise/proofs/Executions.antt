@@ -4,7 +4,7 @@ use mathlib.Core.Path.{_≡_, refl, sym, ap, _∙_}
 use mathlib.Core.Logic.{⊎-elim}
 use mathlib.Core.List.{List, [], _∷_, _++_}
 use mathlib.Core.Option.{Option, none, some}
-use mathlib.Core.Bool.{Bool, true, false, _||_}
+use mathlib.Core.Bool.{Bool, true, false, _&&_, _||_}
 use native.Mathlib.Nat.{add-zero, suc-ne-zero, not-suc-le-zero}
 use native.Mathlib.Omega.{arith}
 use lib.ListN.{length, drop, getD, length-append}
@@ -18,7 +18,7 @@ use Rattle.fill.specs.Booked.{IsSlot, lineOf}
 use Rattle.book.specs.Place.{sameExec}
 use Rattle.book.specs.Entries.{sameKey}
 use Rattle.book.specs.Admitting.{twins}
-use Rattle.book.proofs.ByKind.{entry-no-fill, twins-fill, twins-entry}
+use Rattle.book.proofs.ByKind.{entry-no-fill, twins-as}
 use Rattle.book.proofs.Apart.{exec-apart, key-apart}
 use Rattle.note.proofs.Keeping.{AllSlots}
 use Rattle.promise.specs.World.{without, distinct, Distinct, linesOf}
@@ -56,22 +56,17 @@ pub distinct-all : (fs : List Slot) → Distinct fs → distinct fs ≡ fs
 distinct-all [] d = refl
 distinct-all (f ∷ fs) d = ap (λ (l : List Slot). f ∷ without f l) (distinct-all fs (d .1)) ∙ ap (λ (l : List Slot). f ∷ l) (without-none f fs (d .0))
 
--- two fills, and two entries
+-- two fills, and two entries: what tells them apart tells them apart the other way round
+other-same : (p q : Bool) (x y : List ℕ) → p ≡ true → p && same x y ≡ false → q && same y x ≡ false
+other-same p q x y is h = ⊎-elim (λ n. contrary is n) (λ n. and-no-right q (same y x) (same-sym y x ∙ n)) (and-fails p (same x y) h)
+
 other-exec : (f g : Slot) → isFill g ≡ true → sameExec f g ≡ false → sameExec g f ≡ false
 unfolding sameExec
-other-exec f g is h =
-    ⊎-elim
-    (λ n. contrary is n)
-    (λ n. and-no-right (isFill f) (same (execOf g) (execOf f)) (same-sym (execOf g) (execOf f) ∙ n))
-    (and-fails (isFill g) (same (execOf f) (execOf g)) h)
+other-exec f g = other-same (isFill g) (isFill f) (execOf f) (execOf g)
 
 other-key : (f g : Slot) → isEntry g ≡ true → sameKey f g ≡ false → sameKey g f ≡ false
 unfolding sameKey
-other-key f g is h =
-    ⊎-elim
-    (λ n. contrary is n)
-    (λ n. and-no-right (isEntry f) (same (keyOf g) (keyOf f)) (same-sym (keyOf g) (keyOf f) ∙ n))
-    (and-fails (isEntry g) (same (keyOf f) (keyOf g)) h)
+other-key f g = other-same (isEntry g) (isEntry f) (keyOf f) (keyOf g)
 
 fill-of : (g : Slot) → IsSlot g → isEntry g ≡ false → isFill g ≡ true
 fill-of g is h = ⊎-elim (λ t. t) (λ t. contrary t h) (is .marked)
@@ -79,15 +74,15 @@ fill-of g is h = ⊎-elim (λ t. t) (λ t. contrary t h) (is .marked)
 other-way : (f g : Slot) → IsSlot g → twins f g ≡ false → twins g f ≡ false
 other-way f g is h =
     ⊎-elim
-    (λ ge. twins-entry g ge f
+    (λ ge. twins-as g ge f
     ∙ ⊎-elim
-    (λ fe. other-key f g ge (sym (twins-entry f fe g) ∙ h))
+    (λ fe. other-key f g ge (sym (twins-as f fe g) ∙ h))
     (λ ff. key-apart f ff g)
     (bool-case (isEntry f)))
-    (λ gf. twins-fill g gf f
+    (λ gf. twins-as g gf f
     ∙ ⊎-elim
     (λ fe. exec-apart f (entry-no-fill f fe) g)
-    (λ ff. other-exec f g (fill-of g is gf) (sym (twins-fill f ff g) ∙ h))
+    (λ ff. other-exec f g (fill-of g is gf) (sym (twins-as f ff g) ∙ h))
     (bool-case (isEntry f)))
     (bool-case (isEntry g))
 

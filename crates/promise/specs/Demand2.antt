@@ -5,21 +5,19 @@ use mathlib.Core.List.{List, [], _∷_, _++_}
 use mathlib.Core.Option.{none, some}
 use mathlib.Core.Bool.{true}
 use lib.ListN.{length}
-use Rattle.octet.specs.Padded.{textOf}
-use Rattle.value.specs.Value.{isTime, priceIn}
+use Rattle.value.specs.Value.{isTime}
 use Rattle.frame.specs.Finding.{foundIn, bodyIn}
 use Rattle.frame.specs.declared.Found.the-variants as found
-use Rattle.field.specs.Pieces.{Pieces, piecesOf, firstOf, textAt}
+use Rattle.field.specs.Pieces.{Pieces, piecesOf, firstOf}
 use Rattle.table.specs.Rows.{kindIn}
-use Rattle.table.specs.Steps.{numberAt, faultIn}
+use Rattle.table.specs.Steps.{faultIn}
 use Rattle.answer.specs.Numbers.{inside}
 use Rattle.answer.specs.declared.Setup.{Setup}
 use Rattle.answer.specs.declared.Kind.{Kind}
 use Rattle.answer.specs.declared.Kind.the-variants as kind
 use Rattle.answer.specs.declared.Outcome.{Outcome}
 use Rattle.answer.specs.declared.Outcome.the-variants.{Booked, Entered}
-use Rattle.fill.specs.Slot.{Slot, fullTime, execOf, orderOf, symbolOf, sideOf, quantityOf, sharesOf, priceOf, cumOf, timeOf}
-use Rattle.fill.specs.Entry.{tradeOf, numberOf, entrySideOf, transactionOf, correctionOf, originalOf, entrySharesOf, entryPriceOf, entryTimeOf}
+use Rattle.fill.specs.Slot.{Slot}
 use Rattle.book.specs.Place.{inStep}
 use Rattle.book.specs.Admitting.{place, hasRoom, withFill, withEntry}
 use Rattle.book.specs.declared.Load.{Load}
@@ -27,6 +25,7 @@ use Rattle.book.specs.declared.Placed.the-variants as placed
 use Rattle.note.specs.Notes.{Books}
 use Rattle.report.specs.Report.{reportIn, slotIn, ruleFault}
 use Rattle.report.specs.Correction.{entryIn}
+use Rattle.report.specs.Carried.{Carries, Enters}
 use Rattle.session.specs.Reading.{seqGiven, idsGiven}
 use Rattle.tally.specs.Tally.{countOf, tallied}
 use Rattle.tally.specs.declared.Tally.{Tally}
@@ -107,30 +106,6 @@ filledResult st t len f =
 
 abbrev pub enteredResult : State → Tally → ℕ → Slot → Result
 enteredResult st t len e = bookedResult st t len e (withEntry (st .kept .load)) (Entered (length (st .kept .slots) + 1))
-
--- the fill has what the report says
-pub record Carries (ps : Pieces) (f : Slot) : Type 0 where
-  pub exec : textOf (execOf f) ≡ textAt 17 ps
-  pub order : textOf (orderOf f) ≡ textAt 37 ps
-  pub symbol : textOf (symbolOf f) ≡ textAt 55 ps
-  pub side : sideOf f ≡ numberAt 54 ps
-  pub quantity : quantityOf f ≡ numberAt 38 ps
-  pub shares : sharesOf f ≡ numberAt 32 ps
-  pub price : priceOf f ≡ priceIn (textAt 31 ps)
-  pub cum : cumOf f ≡ numberAt 14 ps
-  pub time : timeOf f ≡ fullTime (textAt 60 ps)
-
--- the entry has what the correction says: the key, the trade that it changes, and the change
-pub record Enters (ps : Pieces) (e : Slot) : Type 0 where
-  pub trade : textOf (tradeOf e) ≡ textAt 1003 ps
-  pub number : numberOf e ≡ numberAt 9021 ps
-  pub side : entrySideOf e ≡ numberAt 54 ps
-  pub transaction : transactionOf e ≡ numberAt 20 ps
-  pub correction : correctionOf e ≡ numberAt 9020 ps
-  pub original : textOf (originalOf e) ≡ textAt 17 ps
-  pub shares : entrySharesOf e ≡ numberAt 32 ps
-  pub price : entryPriceOf e ≡ priceIn (textAt 31 ps)
-  pub time : entryTimeOf e ≡ fullTime (textAt 60 ps)
 
 -- any such message, in any such state, at any such time, where there is room
 pub record Demand2 (setup : Setup) (st : State) (b : Lent) (t : Tally) (time s : List ℕ) (len : ℕ) : Type 0 where

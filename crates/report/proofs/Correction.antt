@@ -11,7 +11,6 @@ use native.Mathlib.Omega.{arith}
 use lib.ListN.{length, getD}
 use Rattle.octet.specs.Padded.{textOf}
 use Rattle.octet.proofs.Lists.{between-high}
-use Rattle.value.specs.Value.{priceIn}
 use Rattle.value.proofs.Prices.{price-small}
 use Rattle.value.proofs.Texts.{one-of}
 use Rattle.value.proofs.Times.{time-is}
@@ -24,7 +23,7 @@ use Rattle.table.specs.Rows.{kindIn}
 use Rattle.table.specs.Steps.{numberAt, faultIn}
 use Rattle.table.proofs.Meets.{CorrectionFields}
 use Rattle.table.proofs.Messages.{correction-values, transaction-number, correction-number}
-use Rattle.fill.specs.Slot.{Slot, slotWidth, isEntry, fullTime}
+use Rattle.fill.specs.Slot.{Slot, slotWidth, isEntry}
 use Rattle.fill.specs.Entry.{
   Entry,
   entrySlot,
@@ -58,6 +57,7 @@ use Rattle.fill.proofs.Entry.{
 }
 use Rattle.report.specs.Correction.{entryFor, entryIn}
 use Rattle.report.specs.Correction as told
+use Rattle.report.specs.Carried.{Enters}
 use Rattle.report.proofs.Lawful.{side-one}
 
 -- what a correction says
@@ -80,19 +80,7 @@ entry-ends ps = ap (λ (s : Slot). getD s (slotWidth - 1) 0) (entry-made ps) ∙
 
 -- ---- of a correction that passed the table
 
--- each part of the slot is what the message says
-pub record EntryBack (ps : Pieces) : Type 0 where
-  pub trade : textOf (tradeOf (entryIn ps)) ≡ textAt 1003 ps
-  pub number : numberOf (entryIn ps) ≡ numberAt 9021 ps
-  pub side : entrySideOf (entryIn ps) ≡ numberAt 54 ps
-  pub transaction : transactionOf (entryIn ps) ≡ numberAt 20 ps
-  pub correction : correctionOf (entryIn ps) ≡ numberAt 9020 ps
-  pub exec : textOf (originalOf (entryIn ps)) ≡ textAt 17 ps
-  pub shares : entrySharesOf (entryIn ps) ≡ numberAt 32 ps
-  pub price : entryPriceOf (entryIn ps) ≡ priceIn (textAt 31 ps)
-  pub time : entryTimeOf (entryIn ps) ≡ fullTime (textAt 60 ps)
-
-pub sound-back : (ps : Pieces) → SoundEntry (correctionIn ps) → EntryBack ps
+pub sound-back : (ps : Pieces) → SoundEntry (correctionIn ps) → Enters ps (entryIn ps)
 sound-back ps y =
     let e = correctionIn ps in
     let made = entry-made ps in
@@ -109,7 +97,7 @@ sound-back ps y =
       side = ap entrySideOf made ∙ entry-side-back e (omega arith);
       transaction = ap transactionOf made ∙ transaction-back e (omega arith);
       correction = ap correctionOf made ∙ correction-back e (omega arith);
-      exec = ap (λ (s : Slot). textOf (originalOf s)) made ∙ original-back e (omega arith);
+      original = ap (λ (s : Slot). textOf (originalOf s)) made ∙ original-back e (omega arith);
       shares = ap entrySharesOf made ∙ entry-shares-back e (omega arith);
       price = ap entryPriceOf made ∙ entry-price-back e (omega arith);
       time = ap entryTimeOf made ∙ entry-time-back e (time-is (textAt 60 ps) (y .time-time) .lengths);
@@ -137,7 +125,7 @@ module _ (setup : Setup) (phase : Phase) (o : ℕ) (ps : Pieces) (fine : faultIn
   pub correction-sound : SoundEntry (correctionIn ps)
   correction-sound = fields-sound ps (correction-values setup phase o ps fine e)
 
-  pub correction-kept : EntryBack ps
+  pub correction-kept : Enters ps (entryIn ps)
   correction-kept = sound-back ps correction-sound
 
   pub correction-lawful : entryLawful (entryIn ps) ≡ true

@@ -12,7 +12,6 @@ use lib.ListN.{length}
 use Rattle.octet.specs.Bytes.{between}
 use Rattle.octet.specs.Padded.{textOf}
 use Rattle.octet.proofs.Lists.{between-high}
-use Rattle.value.specs.Value.{priceIn}
 use Rattle.value.proofs.Prices.{price-small}
 use Rattle.value.proofs.Times.{time-is}
 use Rattle.field.specs.Pieces.{Pieces, textAt}
@@ -24,10 +23,11 @@ use Rattle.table.specs.Rows.{kindIn}
 use Rattle.table.specs.Steps.{numberAt, faultIn}
 use Rattle.table.proofs.Faultless.{OneByte}
 use Rattle.table.proofs.Messages.{ReportValues, report-values, side-number}
-use Rattle.fill.specs.Slot.{Slot, Fill, slotWidth, bodyOf, slotOf, isFill, fullTime, execOf, orderOf, symbolOf, sideOf, quantityOf, sharesOf, priceOf, cumOf, timeOf}
+use Rattle.fill.specs.Slot.{Slot, Fill, slotWidth, bodyOf, slotOf, isFill, execOf, orderOf, symbolOf, sideOf, quantityOf, sharesOf, priceOf, cumOf, timeOf}
 use Rattle.fill.specs.Booked.{slotLawful}
 use Rattle.fill.proofs.Fields.{Sound, slot-length, slot-lawful, exec-back, order-back, symbol-back, side-back, quantity-back, shares-back, price-back, cum-back, time-back}
 use Rattle.report.specs.Report.{fillOf, reportOf, reportIn, ruleFault, slotFor, slotIn}
+use Rattle.report.specs.Carried.{Carries}
 use Rattle.report.proofs.Kept.{Kept, kept}
 
 -- what a report says of a fill
@@ -47,18 +47,6 @@ slot-marked ps = ap isFill (slot-made ps)
 
 -- ---- of a report that passed the table
 
--- each part of the slot is what the report says
-pub record Back (ps : Pieces) : Type 0 where
-  pub exec : textOf (execOf (slotIn ps)) ≡ textAt 17 ps
-  pub order : textOf (orderOf (slotIn ps)) ≡ textAt 37 ps
-  pub symbol : textOf (symbolOf (slotIn ps)) ≡ textAt 55 ps
-  pub side : sideOf (slotIn ps) ≡ numberAt 54 ps
-  pub quantity : quantityOf (slotIn ps) ≡ numberAt 38 ps
-  pub shares : sharesOf (slotIn ps) ≡ numberAt 32 ps
-  pub price : priceOf (slotIn ps) ≡ priceIn (textAt 31 ps)
-  pub cum : cumOf (slotIn ps) ≡ numberAt 14 ps
-  pub time : timeOf (slotIn ps) ≡ fullTime (textAt 60 ps)
-
 -- a slot as the book keeps it
 pub record Lawful (s : Slot) : Type 0 where
   pub lawful : slotLawful s ≡ true
@@ -70,7 +58,7 @@ pub side-one : (ps : Pieces) → OneByte 49 50 (textAt 54 ps) → between 1 2 (n
 side-one ps b = ⊎-elim (λ e. ap (between 1 2) e) (λ e. ap (between 1 2) e) (side-number (textAt 54 ps) b)
 
 module _ (ps : Pieces) (v : ReportValues ps) where
-  pub values-back : Back ps
+  pub values-back : Carries ps (slotIn ps)
   values-back =
       let f = fillIn ps in
       let made = slot-made ps in
@@ -115,7 +103,7 @@ module _ (ps : Pieces) (v : ReportValues ps) where
       record { lawful = ap slotLawful (slot-made ps) ∙ slot-lawful (fillIn ps) sound; long = slot-long ps; marked = slot-marked ps }
 
 module _ (setup : Setup) (phase : Phase) (o : ℕ) (ps : Pieces) (fine : faultIn setup phase o ps ≡ none) (e : kindIn setup ps ≡ kind.Report) where
-  pub report-back : Back ps
+  pub report-back : Carries ps (slotIn ps)
   report-back = values-back ps (report-values setup phase o ps fine e)
 
   pub report-lawful : ruleFault (reportIn ps) ≡ none → Lawful (slotIn ps)
