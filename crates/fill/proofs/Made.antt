@@ -4,7 +4,7 @@
 --     text-back, high-back     a text and a number that fit are read back
 --     text-lawful     a text that fits, of bytes that one may have, is lawful
 --     made-rest     the parts, written one after another behind the first byte
---     text-put, byte-put, time-other, time-seventeen     how the code writes a text, a number of one byte, and a time
+--     text-put, byte-put, time-other, time-seventeen, time-same     how the code writes a text, a number of one byte, and a time
 use mathlib.Core.Path.{_≡_, refl, sym, ap, _∙_}
 use mathlib.Core.List.{List, [], _∷_, _++_}
 use mathlib.Core.Logic.{_⊎_, inl, inr, ⊎-elim}
@@ -148,3 +148,6 @@ time-seventeen t h =
     ∙ splice-whole (replicate 21 0) (t ++ bytesOf ".000") n
     ∙ rw (eq-eqb (length t) 17 h) refl
     ∙ sym (time-whole t (inl h))
+
+pub time-same : (t : List ℕ) → length t ≡ 21 → t ≡ filled 21 (fullTime t)
+time-same t h = sym (time-whole t (inr h) ∙ rw (ne-eqb (length t) 17 (λ e. omega arith)) refl)

@@ -6,8 +6,8 @@ use super::TIME;
 use super::is_text;
 use super::number_word;
 use super::put_text;
+use super::put_time;
 use super::text_word;
-use super::time_field;
 use answer::MOST_CONTRACTS;
 use answer::NINE_DIGITS;
 use octet::part;
@@ -131,7 +131,7 @@ pub fn entry_with(
     put_text(&mut slot, ORIGINAL_AT, ORIGINAL, exec);
     octet::put_four(&mut slot, SHARES_AT, shares);
     octet::put_eight(&mut slot, PRICE_AT, price);
-    octet::copy_into(&mut slot, TIME_AT, &time_field(time));
+    put_time(&mut slot, TIME_AT, time);
     slot
 }
 

@@ -148,6 +148,18 @@ fn time_field(t: &[u8]) -> [u8; TIME]
     field
 }
 
+// Writes a time over dst from place `at` on, one of 21 bytes at once.
+fn put_time(dst: &mut [u8], at: usize, t: &[u8])
+    requires { ⌜ at + 21 ≤ length (now dst) ⌝ }
+    ensures { λ r. ⌜ now (dst .exit) ≡ splice (now (dst .entry)) at (filled (widthOf 8) (fullTime (now (t .entry)))) ⌝ }
+{
+    if t.len() == TIME {
+        octet::copy_into(dst, at, t);
+        return;
+    }
+    octet::copy_into(dst, at, &time_field(t));
+}
+
 // The slot of a fill.
 pub fn slot_with(
     exec: &[u8],
@@ -172,7 +184,7 @@ pub fn slot_with(
     octet::put_four(&mut slot, SHARES_AT, shares);
     octet::put_eight(&mut slot, PRICE_AT, price);
     octet::put_four(&mut slot, CUM_AT, cum);
-    octet::copy_into(&mut slot, TIME_AT, &time_field(time));
+    put_time(&mut slot, TIME_AT, time);
     slot
 }
 

@@ -1,6 +1,6 @@
 -- List laws: what is left of a list at a place, parts, sameness, agreement, runs, joined lists, and lists written over others (`splice`).
 use mathlib.Core.Path.{_≡_, refl, sym, ap, _∙_, subst}
-use mathlib.Core.Logic.{⊎-elim}
+use mathlib.Core.Logic.{_⊎_, inl, inr, ⊎-elim}
 use mathlib.Core.List.{List, [], _∷_, _++_, reverse, reverse-cons, append-assoc, append-nil}
 use mathlib.Core.Bool.{Bool, true, false, _&&_, and-assoc, and-comm, and-true}
 use Prim.Native.Nat.{ℕ, zero, suc, _+_, _-_, _≤_, _<_}
@@ -217,6 +217,14 @@ pub until-most : (b : ℕ) (s : List ℕ) → untilByte b s ≤ length s
 until-most b [] = omega arith
 until-most b (x ∷ s) = of-cond (λ (n : ℕ). n ≤ suc (length s)) (eqb x b) (λ e. omega arith) (λ e. omega (arith, until-most b s))
 
+-- what may be passed over, and the count from there on
+pub until-from : (b i : ℕ) (s : List ℕ) → i ≤ untilByte b s → untilByte b s ≡ i + untilByte b (drop i s)
+until-from b zero s h = omega arith
+until-from b (suc i) [] h = absurd (omega arith)
+until-from b (suc i) (x ∷ s) h =
+    of-cond (λ (n : ℕ). suc i ≤ n → n ≡ suc i + untilByte b (drop i s)) (eqb x b)
+    (λ e g. absurd (omega arith)) (λ e g. omega (arith, until-from b i s (omega arith))) h
+
 -- a walk: at place i
 module _ (b : ℕ) (s : List ℕ) (i : ℕ) where
   pub until-go : i < length s → (getD s i 0 ≡ b → ⊥) → untilByte b (drop i s) ≡ 1 + untilByte b (drop (i + 1) s)
@@ -290,6 +298,14 @@ module _ (low high : ℕ) where
   run-most [] = omega arith
   run-most (b ∷ s) = of-cond (λ (n : ℕ). n ≤ suc (length s)) (between low high b) (λ e. omega (arith, run-most s)) (λ e. omega arith)
 
+  -- the run from a place inside it on
+  pub run-from : (i : ℕ) (s : List ℕ) → i ≤ runIn low high s → runIn low high s ≡ i + runIn low high (drop i s)
+  run-from zero s h = omega arith
+  run-from (suc i) [] h = absurd (omega arith)
+  run-from (suc i) (b ∷ s) h =
+      of-cond (λ (n : ℕ). suc i ≤ n → n ≡ suc i + runIn low high (drop i s)) (between low high b)
+      (λ e g. omega (arith, run-from i s (omega arith))) (λ e g. absurd (omega arith)) h
+
   -- the bytes of the run pass
   pub run-in : (s : List ℕ) → allIn low high (take (runIn low high s) s) ≡ true
   run-in [] = refl
@@ -314,6 +330,24 @@ module _ (low high : ℕ) where
 
     pub run-done : length s ≤ i → runIn low high (drop i s) ≡ 0
     run-done h = ap (runIn low high) (drop-done s i h)
+
+-- ---- many bytes told at once, with no way out of the loop
+-- t is a count and `rest` the count from a place on: the flag is 0 as long as the first i bytes are all counted, and then stays 1
+abbrev pub Told : ℕ → (ℕ → ℕ) → ℕ → ℕ → Type 0
+Told t rest flag i = ((flag ≡ 0) × (t ≡ i + rest i)) ⊎ ((flag ≡ 1) × (t < i))
+
+module _ (t : ℕ) (rest : ℕ → ℕ) (flag i : ℕ) where
+  pub told-go : rest i ≡ 1 + rest (i + 1) → Told t rest flag i → Told t rest flag (i + 1)
+  told-go e = ⊎-elim (λ p. inl (p .0, omega arith)) (λ p. inr (p .0, omega arith))
+
+  pub told-stop : rest i ≡ 0 → Told t rest flag i → Told t rest 1 (i + 1)
+  told-stop e = ⊎-elim (λ p. inr (refl, omega arith)) (λ p. inr (refl, omega arith))
+
+  pub told-all : Told t rest flag i → eqb flag 0 ≡ leb i t
+  told-all =
+      ⊎-elim
+      (λ p. eq-eqb flag 0 (p .0) ∙ sym (le-leb i t (omega arith)))
+      (λ p. ne-eqb flag 0 (λ e. omega arith) ∙ sym (lt-leb i t (p .1)))
 
 -- ---- joined
 pub joined-append : (f g : List (List ℕ)) → joined (f ++ g) ≡ joined f ++ joined g

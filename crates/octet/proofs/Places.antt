@@ -7,9 +7,10 @@ use native.Mathlib.Nat.{pow-zero, pow-suc, pow-succ', one-le-pow, mul-one, zero-
 use native.Mathlib.Numerals.{add-one}
 use native.Mathlib.Omega.{arith}
 use lib.Arith.{mod-mul, digits-lt, digits-div, digits-mod}
+use lib.Seq.{take-all}
 use lib.Dec.{leb, lit<}
 use borrow.Author.Tests.{le-leb, lt-leb}
-use lib.ListN.{length, take, drop, getD, set, length-reverse}
+use lib.ListN.{length, take, drop, getD, set, length-reverse, length-drop, take-append-drop}
 use Rattle.octet.specs.Bytes.{between, allIn, same, part}
 use Rattle.octet.specs.Places.{valueOf, placesOf, Order, HighFirst, LowFirst, ordered, numberBytes, numberIn, wordAt, high, bigEndian}
 use Rattle.octet.specs.Splice.{splice}
@@ -258,3 +259,30 @@ high-is width n = refl
 pub big-is : (s : List ℕ) → bigEndian s ≡ valueOf 256 0 0 s
 unfolding numberIn
 big-is s = refl
+
+-- its bytes one by one, and eight as two fours
+high-step : (s : List ℕ) (i n v : ℕ) → i < length s → valueOf 256 0 v (part i (suc n) s) ≡ valueOf 256 0 (v * 256 + getD s i 0) (part (i + 1) n s)
+high-step s i n v h =
+    ap (λ (l : List ℕ). valueOf 256 0 v (take (suc n) l)) (drop-step s i h)
+    ∙ ap (λ (d : ℕ). valueOf 256 0 (v * 256 + d) (part (i + 1) n s)) (sub-zero (getD s i 0))
+
+pub high-four : (s : List ℕ) (i : ℕ) → i + 4 ≤ length s
+    → bigEndian (part i 4 s) ≡ getD s i 0 * 16777216 + getD s (i + 1) 0 * 65536 + getD s (i + 2) 0 * 256 + getD s (i + 3) 0
+high-four s i h =
+    let j : i + 1 + 1 ≡ i + 2 = omega arith in
+    let k : i + 2 + 1 ≡ i + 3 = omega arith in
+    let a = high-step s i 3 0 (omega arith) in
+    let b = rw j at (high-step s (i + 1) 2 (0 * 256 + getD s i 0) (omega arith)) in
+    let c = rw k at (high-step s (i + 2) 1 ((0 * 256 + getD s i 0) * 256 + getD s (i + 1) 0) (omega arith)) in
+    let d = high-step s (i + 3) 0 (((0 * 256 + getD s i 0) * 256 + getD s (i + 1) 0) * 256 + getD s (i + 2) 0) (omega arith) in
+    big-is (part i 4 s) ∙ a ∙ b ∙ c ∙ d ∙ omega arith
+
+pub high-eight : (s : List ℕ) → length s ≡ 8 → bigEndian s ≡ bigEndian (part 0 4 s) * 4294967296 + bigEndian (part 4 4 s)
+unfolding numberIn
+high-eight s h =
+    let n : length (drop 4 s) ≡ 4 = omega (arith, length-drop 4 s) in
+    ap (valueOf 256 0 0) (sym (take-append-drop 4 s))
+    ∙ value-append 256 0 0 (take 4 s) (drop 4 s)
+    ∙ value-split 256 0 (valueOf 256 0 0 (take 4 s)) (drop 4 s)
+    ∙ ap (λ (k : ℕ). valueOf 256 0 0 (take 4 s) * 256 ^ k + valueOf 256 0 0 (drop 4 s)) n
+    ∙ ap (λ (l : List ℕ). valueOf 256 0 0 (take 4 s) * 4294967296 + valueOf 256 0 0 l) (sym (take-all 4 (drop 4 s) (omega arith)))

@@ -6,7 +6,9 @@ use Rattle.octet.proofs.same as same
 use Rattle.octet.proofs.part as part
 use Rattle.octet.proofs.word_at as word-at
 use Rattle.octet.proofs.until as until
+use Rattle.octet.proofs.until_far as until-far
 use Rattle.octet.proofs.run_in as run-in
+use Rattle.octet.proofs.run_far as run-far
 use Rattle.octet.proofs.all_in as all-in
 use Rattle.octet.proofs.copy_into as copy-into
 use Rattle.octet.proofs.four_at as four-at
@@ -36,8 +38,14 @@ word-at-one M 𝓤 H A mem run κs a g = (_, λ r e. alone 𝓤)
 pub until-one : Once until.ended (λ M 𝓤. until.clauses 𝓤) (λ κs r e. r)
 until-one M 𝓤 H A mem run κs a g = (_, λ r e. alone 𝓤)
 
+pub until-far-one : Once until-far.ended (λ M 𝓤. until-far.clauses 𝓤) (λ κs r e. r)
+until-far-one M 𝓤 H A mem run κs a g = (_, λ r e. alone 𝓤)
+
 pub run-in-one : Once run-in.ended (λ M 𝓤. run-in.clauses 𝓤) (λ κs r e. r)
 run-in-one M 𝓤 H A mem run κs a g = (_, λ r e. alone 𝓤)
+
+pub run-far-one : Once run-far.ended (λ M 𝓤. run-far.clauses 𝓤) (λ κs r e. r)
+run-far-one M 𝓤 H A mem run κs a g = (_, λ r e. alone 𝓤)
 
 pub all-in-one : Once all-in.ended (λ M 𝓤. all-in.clauses 𝓤) (λ κs r e. r)
 all-in-one M 𝓤 H A mem run κs a g = (_, λ r e. alone 𝓤)

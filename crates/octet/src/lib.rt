@@ -1,8 +1,9 @@
 // Bytes in lent memory: compared, measured, cut into parts and copied; and in them numbers, high byte first,
 // and texts with a length byte and zero padding.
 ghost use mathlib.Core.Path.{_≡_};
-ghost use Prim.Native.Nat.{_+_, _-_, _*_, _^_, _≤_, _<_};
-ghost use lib.ListN.{length, getD, replicate};
+ghost use Prim.Native.Nat.{_+_, _-_, _*_, _^_, _≤_, _<_, min};
+ghost use lib.ListN.{length, getD, drop, replicate};
+ghost use lib.Dec.{leb};
 ghost use Rattle.octet.specs.Bytes.{same, agree, part, untilByte, runIn, allIn};
 ghost use Rattle.octet.specs.Places.{LowFirst, numberIn, wordAt, high, bigEndian};
 ghost use Rattle.octet.specs.Splice.{splice, fitsAt};
@@ -15,21 +16,30 @@ pub fn byte_at(s: &[u8], i: usize) -> u8
     if i < s.len() { s[i] } else { 0 }
 }
 
-// Whether o and s agree as far as both go.
-pub fn agree(o: &[u8], s: &[u8]) -> bool
+// Whether o and s agree in their first n bytes, which are all of the shorter one.
+fn alike(o: &[u8], s: &[u8], n: usize) -> bool
+    requires { ⌜ n ≡ min (length (now o)) (length (now s)) ⌝ }
     ensures { λ r. ⌜ r ≡ agree (now (o .entry)) (now (s .entry)) ⌝ }
 {
     let mut i = 0;
-    while i < o.len() {
-        if s.len() <= i {
-            return true;
-        }
+    while i < n {
         if o[i] != s[i] {
             return false;
         }
         i += 1;
     }
     true
+}
+
+// Whether o and s agree as far as both go. Which one is the shorter is asked once: where o stands in the code its length is then known, and no byte is
+// asked whether it is the last.
+pub fn agree(o: &[u8], s: &[u8]) -> bool
+    ensures { λ r. ⌜ r ≡ agree (now (o .entry)) (now (s .entry)) ⌝ }
+{
+    if s.len() < o.len() {
+        return alike(o, s, s.len());
+    }
+    alike(o, s, o.len())
 }
 
 // Whether a and b hold the same bytes: as many, and those agree.
@@ -115,6 +125,47 @@ pub fn until(s: &[u8], b: u8) -> usize
     i
 }
 
+// So many bytes are compared at once.
+const MANY: usize = 16;
+
+// Whether none of the many bytes at a place is b. There is no way out of the loop, so that the compiler compares them at once.
+fn none_of(s: &[u8], at: usize, b: u8) -> bool
+    requires { ⌜ at + 16 ≤ length (now s) ⌝ }
+    ensures { λ r. ⌜ r ≡ leb 16 (untilByte b (drop at (now (s .entry)))) ⌝ }
+{
+    let mut hits: u8 = 0;
+    let mut i = 0;
+    while i < MANY {
+        if s[at + i] == b {
+            hits = 1;
+        }
+        i += 1;
+    }
+    hits == 0
+}
+
+// How many bytes at the front may be passed over, many at once: none of them is b.
+fn pass_over(s: &[u8], b: u8) -> usize
+    ensures { λ r. ⌜ r ≤ untilByte b (now (s .entry)) ⌝ }
+{
+    let mut i = 0;
+    while MANY <= s.len() - i {
+        if !none_of(s, i, b) {
+            return i;
+        }
+        i += MANY;
+    }
+    i
+}
+
+// How many bytes stand before the first b, where these may be many.
+pub fn until_far(s: &[u8], b: u8) -> usize
+    ensures { λ r. ⌜ r ≡ untilByte b (now (s .entry)) ⌝ }
+{
+    let i = pass_over(s, b);
+    i + until(&s[i..], b)
+}
+
 // How many bytes at the front are of low to high.
 pub fn run_in(s: &[u8], low: u8, high: u8) -> usize
     ensures { λ r. ⌜ r ≡ runIn low high (now (s .entry)) ⌝ }
@@ -131,6 +182,38 @@ pub fn run_in(s: &[u8], low: u8, high: u8) -> usize
         i += 1;
     }
     i
+}
+
+// Whether the first of many bytes are of low to high, compared at once.
+fn many_in(s: &[u8], low: u8, high: u8) -> bool
+    requires { ⌜ 16 ≤ length (now s) ⌝ }
+    ensures { λ r. ⌜ r ≡ leb 16 (runIn low high (now (s .entry))) ⌝ }
+{
+    let mut outside: u8 = 0;
+    let mut i = 0;
+    while i < MANY {
+        let b = s[i];
+        if b < low {
+            outside = 1;
+        }
+        if high < b {
+            outside = 1;
+        }
+        i += 1;
+    }
+    outside == 0
+}
+
+// How many bytes at the front are of low to high, where these may be many.
+pub fn run_far(s: &[u8], low: u8, high: u8) -> usize
+    ensures { λ r. ⌜ r ≡ runIn low high (now (s .entry)) ⌝ }
+{
+    if MANY <= s.len() {
+        if many_in(s, low, high) {
+            return MANY + run_in(&s[MANY..], low, high);
+        }
+    }
+    run_in(s, low, high)
 }
 
 // Whether each byte is one of low to high.
@@ -172,18 +255,34 @@ fn number(s: &[u8]) -> u64
     v
 }
 
+// The number that four bytes are, the high one first: so written it is one load.
+fn high_four(s: &[u8], i: usize) -> u64
+    requires { ⌜ i + 4 ≤ length (now s) ⌝ }
+    ensures { λ r. ⌜ (r ≡ bigEndian (part i 4 (now (s .entry)))) × (r < 4294967296) ⌝ }
+{
+    byte(s, i) * 16777216 + byte(s, i + 1) * 65536 + byte(s, i + 2) * 256 + byte(s, i + 3)
+}
+
 // The number of the four bytes at a place, or of as many as there are.
 pub fn four_at(s: &[u8], at: usize) -> u32
     ensures { λ r. ⌜ r ≡ bigEndian (part at 4 (now (s .entry))) ⌝ }
 {
-    number(part(s, at, 4)) as u32
+    let cut = part(s, at, 4);
+    if cut.len() == 4 {
+        return high_four(cut, 0) as u32;
+    }
+    number(cut) as u32
 }
 
 // The number of the eight bytes at a place, or of as many as there are.
 pub fn eight_at(s: &[u8], at: usize) -> u64
     ensures { λ r. ⌜ r ≡ bigEndian (part at 8 (now (s .entry))) ⌝ }
 {
-    number(part(s, at, 8))
+    let cut = part(s, at, 8);
+    if cut.len() == 8 {
+        return high_four(cut, 0) * 4294967296 + high_four(cut, 4);
+    }
+    number(cut)
 }
 
 // Writes the lowest `width` bytes of n over dst from place `at` on, the high one first. Where they do not fit nothing

@@ -1,41 +1,30 @@
--- The days of a month: the table of a common year agrees with the definition, by one computed test; and what a day is.
-use mathlib.Core.Path.{_≡_, refl, ap, _∙_}
-use mathlib.Core.List.{List, [], _∷_}
-use mathlib.Core.Bool.{Bool, true, false, cond, _||_}
-use Prim.Native.Nat.{ℕ, _+_, _-_, _≤_}
+-- Days and clocks: how large their numbers are.
+use mathlib.Core.Path.{_≡_}
+use mathlib.Core.Bool.{true, _||_, _&&_}
+use Prim.Native.Nat.{ℕ, _≤_}
 use native.Mathlib.Omega.{arith}
-use lib.ListN.{getD}
-use lib.Dec.{eqb}
-use borrow.Author.Tests.{ne-eqb, eqb-true}
-use Rattle.value.specs.Value.{leap, daysIn}
-use Rattle.value.proofs.Table.{at-each}
+use lib.Dec.{leb, eqb}
+use borrow.Author.Tests.{leb-true}
+use Rattle.octet.specs.Bytes.{between}
+use Rattle.octet.proofs.Cases.{of-cond, and-both}
+use Rattle.octet.proofs.Lists.{between-high}
+use Rattle.value.specs.Value.{leap, daysIn, isDay, isClock}
 
--- the days of the months of a common year, from the first on
-abbrev pub months : List ℕ
-months = 31 ∷ 28 ∷ 31 ∷ 30 ∷ 31 ∷ 30 ∷ 31 ∷ 31 ∷ 30 ∷ 31 ∷ 30 ∷ 31 ∷ []
+pub days-most : (y m : ℕ) → daysIn y m ≤ 31
+unfolding daysIn
+days-most y m =
+    of-cond (λ (n : ℕ). n ≤ 31) (eqb m 2)
+    (λ e. of-cond (λ (n : ℕ). n ≤ 31) (leap y) (λ f. omega arith) (λ f. omega arith))
+    (λ e. of-cond (λ (n : ℕ). n ≤ 31) (eqb m 4 || eqb m 6 || eqb m 9 || eqb m 11) (λ f. omega arith) (λ f. omega arith))
 
--- the days of a month but February
-abbrev longOf : ℕ → ℕ
-longOf m = cond (eqb m 4 || eqb m 6 || eqb m 9 || eqb m 11) 30 31
+pub day-below : (y m d : ℕ) → isDay y m d ≡ true → (m ≤ 12) × (d ≤ 31)
+unfolding isDay
+day-below y m d e =
+    let p = and-both (between 1 12 m) (between 1 (daysIn y m) d) e in
+    (between-high 1 12 m (p .0), omega (arith, between-high 1 (daysIn y m) d (p .1), days-most y m))
 
-right : ℕ → ℕ → Bool
-right k x = eqb x (cond (eqb (k + 1) 2) 28 (longOf (k + 1)))
-
-pub month-table : (m : ℕ) → 1 ≤ m → m ≤ 12 → getD months (m - 1) 0 ≡ cond (eqb m 2) 28 (longOf m)
-unfolding right
-month-table m l h =
-    let e : m - 1 + 1 ≡ m = omega arith in
-    eqb-true _ _ (at-each right months refl (m - 1) (omega arith)) ∙ ap (λ (n : ℕ). cond (eqb n 2) 28 (longOf n)) e
-
-module _ (y m : ℕ) (l : 1 ≤ m) (h : m ≤ 12) where
-  pub days-other : (m ≡ 2 → ⊥) → getD months (m - 1) 0 ≡ daysIn y m
-  unfolding daysIn
-  days-other n = month-table m l h ∙ simp (ne-eqb m 2 n)
-
-  pub days-leap : m ≡ 2 → leap y ≡ true → 29 ≡ daysIn y m
-  unfolding daysIn
-  days-leap e f = rw (e, f)
-
-  pub days-common : m ≡ 2 → leap y ≡ false → getD months (m - 1) 0 ≡ daysIn y m
-  unfolding daysIn
-  days-common e f = rw (e, f)
+pub clock-below : (h m s : ℕ) → isClock h m s ≡ true → (h ≤ 23) × (m ≤ 59) × (s ≤ 59)
+clock-below h m s e =
+    let p = and-both (leb h 23 && leb m 59) (leb s 59) e in
+    let q = and-both (leb h 23) (leb m 59) (p .0) in
+    (leb-true h 23 (q .0), leb-true m 59 (q .1), leb-true s 59 (p .1))

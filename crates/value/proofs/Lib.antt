@@ -1,5 +1,4 @@
 pub mod Forms
-pub mod Table
 pub mod Days
 pub mod Like
 pub mod Numbers

@@ -3,6 +3,7 @@
 --     time-is     what it means to be a time
 --     time-read     a time is read
 --     time-yes, time-form, time-range     each answer, as a test
+--     day-plain, clock-plain, time-plain     a time with .mmm, known by the bytes at its places
 --     time-filled, time-full     a time of 17 bytes with .000 after it is a time, of 21 bytes
 use mathlib.Core.Path.{_≡_, refl, sym, ap, _∙_}
 use mathlib.Core.Logic.{_⊎_, ⊎-elim, inl, inr}
@@ -14,17 +15,18 @@ use native.Mathlib.Omega.{arith}
 use lib.ListN.{length, length-append, getD}
 use lib.Dec.{eqb}
 use borrow.Author.Tests.{eqb-true, eq-eqb}
-use Rattle.octet.specs.Bytes.{bytesOf, part}
+use Rattle.octet.specs.Bytes.{bytesOf, between, part}
 use Rattle.octet.specs.Maybe.{isNone}
 use Rattle.octet.proofs.Cases.{not-true-false, of-cond, contrary, cond-true, and-both, and-make, or-cases}
 use Rattle.octet.proofs.Lists.{part-first, drop-step}
 use Rattle.text.specs.Decimal.{digits}
-use Rattle.value.specs.Value.{wellFormed, likeRun, timePattern, timeLong, badTime, isDay, numberOn, timeFits, isTime}
+use Rattle.value.specs.Value.{wellFormed, likeRun, likeFrom, timePattern, timeLong, badTime, isDay, isClock, numberOn, twoDigits, pairOn, timeFits, isTime, PlainDay, PlainClock}
 use Rattle.value.specs.Readers.{checked, timeChecked}
 use Rattle.value.specs.declared.Check.{Check}
 use Rattle.value.specs.declared.Check.the-variants.{Good, BadForm, OutOfRange}
 use Rattle.value.proofs.Forms.{form-short, form-part, form-well, form-good, checked-good, checked-bad, checked-out}
-use Rattle.value.proofs.Like.{like-append}
+use Rattle.value.proofs.Days.{day-below, clock-below}
+use Rattle.value.proofs.Like.{like-go, like-done, like-append}
 
 -- ---- form, and then range
 module _ (v : List ℕ) (good : ℕ) (e : good ≡ likeRun timePattern v) where
@@ -72,6 +74,50 @@ pub day-read : (v : List ℕ) → 17 ≤ length v → (c y m d : ℕ) → c ≡ 
     → isDay (c * 100 + y) m d ≡ isDay (numberOn 0 4 v) (numberOn 4 2 v) (numberOn 6 2 v)
 day-read v h c y m d ec ey em ed = rw (ec, ey, em, ed, year-at v (omega arith)) refl
 
+-- ---- two digits that stand where a time has two
+module _ (v : List ℕ) (at r : ℕ) (e : r ≡ pairOn at v) (h : r < 100) where
+  pub pair-there : (twoDigits at v ≡ true) × (r ≡ numberOn at 2 v)
+  pair-there =
+      of-cond (λ (n : ℕ). r ≡ n → (twoDigits at v ≡ true) × (r ≡ numberOn at 2 v)) (twoDigits at v) (λ t f. (t, f)) (λ t f. absurd (omega arith)) e
+
+  pub pair-like : at + 2 ≤ 21 → at + 2 ≤ length v → twoDigits at timePattern ≡ true → likeFrom at v ≡ 2 + likeFrom (at + 2) v
+  pair-like hp hv d =
+      let p = and-both (between 48 57 (getD timePattern at 0)) (between 48 57 (getD timePattern (at + 1) 0)) d in
+      let q = and-both (between 48 57 (getD v at 0)) (between 48 57 (getD v (at + 1) 0)) (pair-there .0) in
+      let k : at + 1 + 1 ≡ at + 2 = omega arith in
+      let a = like-go timePattern v at (omega arith) (omega arith) (cond-true _ _ _ (p .0) ∙ q .0) in
+      let b = like-go timePattern v (at + 1) (omega arith) (omega arith) (cond-true _ _ _ (p .1) ∙ q .1) in
+      omega (arith, a, rw k at b)
+
+-- the day and the clock by their pairs
+module _ (v : List ℕ) (l : 17 ≤ length v) where
+  pub day-plain : (c y m d : ℕ) → c ≡ pairOn 0 v → y ≡ pairOn 2 v → m ≡ pairOn 4 v → d ≡ pairOn 6 v → c < 100 → y < 100 → isDay (c * 100 + y) m d ≡ true → PlainDay v
+  day-plain c y m d ec ey em ed hc hy t =
+      let b = day-below (c * 100 + y) m d t in
+      let hm : m < 100 = omega arith in
+      let hd : d < 100 = omega arith in
+      let p = pair-like v 0 c ec hc (omega arith) (omega arith) refl in
+      let q = pair-like v 2 y ey hy (omega arith) (omega arith) refl in
+      let r = pair-like v 4 m em hm (omega arith) (omega arith) refl in
+      let s = pair-like v 6 d ed hd (omega arith) (omega arith) refl in (
+        omega arith,
+        sym (day-read v l c y m d (pair-there v 0 c ec hc .1) (pair-there v 2 y ey hy .1) (pair-there v 4 m em hm .1) (pair-there v 6 d ed hd .1)) ∙ t,
+      )
+
+  pub clock-plain : getD v 8 0 ≡ 45 → getD v 11 0 ≡ 58 → getD v 14 0 ≡ 58 → (h m s : ℕ) → h ≡ pairOn 9 v → m ≡ pairOn 12 v → s ≡ pairOn 15 v → isClock h m s ≡ true → PlainClock v
+  clock-plain a b c h m s eh em es t =
+      let k = clock-below h m s t in
+      let hh : h < 100 = omega arith in
+      let hm : m < 100 = omega arith in
+      let hs : s < 100 = omega arith in
+      let i = like-go timePattern v 8 (omega arith) (omega arith) (eq-eqb 45 _ (sym a)) in
+      let p = pair-like v 9 h eh hh (omega arith) (omega arith) refl in
+      let j = like-go timePattern v 11 (omega arith) (omega arith) (eq-eqb 58 _ (sym b)) in
+      let q = pair-like v 12 m em hm (omega arith) (omega arith) refl in
+      let n = like-go timePattern v 14 (omega arith) (omega arith) (eq-eqb 58 _ (sym c)) in
+      let r = pair-like v 15 s es hs (omega arith) (omega arith) refl in
+      (omega arith, rw (← pair-there v 9 h eh hh .1, ← pair-there v 12 m em hm .1, ← pair-there v 15 s es hs .1) t)
+
 -- ---- what it means that a time was read
 pub time-lengths : (v : List ℕ) → badTime v ≡ none → (length v ≡ 17) ⊎ (length v ≡ 21)
 unfolding badTime
@@ -117,6 +163,16 @@ time-is v e =
 
 pub time-read : (v : List ℕ) → isTime v ≡ true → timeChecked v ≡ Good
 time-read v e = let t = time-is v e in time-ranged v (t .formed) ∙ cond-true (timeFits v) Good OutOfRange (t .fits)
+
+-- a time with .mmm by its parts
+pub time-plain : (v : List ℕ) → length v ≡ 21 → getD v 17 0 ≡ 46 → (n : ℕ) → n ≡ pairOn 18 v → n < 100 → between 48 57 (getD v 20 0) ≡ true → PlainDay v → PlainClock v → isTime v ≡ true
+unfolding timeFits
+time-plain v l m n e h b d c =
+    let i = like-go timePattern v 17 (omega arith) (omega arith) (eq-eqb 46 _ (sym m)) in
+    let p = pair-like v 18 n e h (omega arith) (omega arith) refl in
+    let j = like-go timePattern v 20 (omega arith) (omega arith) b in
+    let e : 21 ≡ likeRun timePattern v = omega (arith, like-done timePattern v 21 (omega arith)) in
+    of-parts v (time-formed v 21 e (sym l) refl) (and-make _ _ (d .1) (c .1))
 
 -- ---- "one of 17 bytes gets .000"
 module _ (t w : List ℕ) (l : length t ≡ 17) where

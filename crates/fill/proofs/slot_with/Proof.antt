@@ -1,7 +1,6 @@
 use native.Mathlib.Omega.{arith}
 use Prim.Native.Nat.{_<_}
-use mathlib.Core.Path.{refl, ap, _∙_}
-use Rattle.octet.specs.Splice.{splice}
+use mathlib.Core.Path.{refl}
 use Rattle.fill.proofs.Fields.{slot-made}
 use borrow.Author.Needs.{needs}
 use Rattle.fill.proofs.slot_with.Statement.{statement}
@@ -10,7 +9,7 @@ use Rattle.fill.proofs.slot_with.Tie as tie
 returns : tie.Need-returns
 returns c =
     let time = c .before in
-    let cum = time .before .before .before .before .before in
+    let cum = time .before .before .before in
     let price = cum .before .before .before in
     let shares = price .before .before .before in
     let quantity = shares .before .before .before in
@@ -22,7 +21,7 @@ returns c =
     slot-made _ _ _ _ _ _ _ _ _ _ _ refl small
     (exec .put-text .ensures) (order .put-text2 .ensures) (symbol .put-text3 .ensures) refl
     (quantity .put-four .ensures .1) (shares .put-four2 .ensures .1) (price .put-eight .ensures .1) (cum .put-four3 .ensures .1)
-    (time .copy-into .ensures .1 ∙ ap (splice _ 73) (c .before .before .before .time-field .ensures))
+    (time .put-time .ensures)
 
 pub slot-with-spec : {M : Type 1} → statement M
 slot-with-spec =
@@ -36,8 +35,6 @@ slot-with-spec =
     (λ c. search needs)
     (λ c κs. search needs)
     (λ c. search needs)
-    (λ c. search needs)
-    (λ c κs. search needs)
     (λ c. search needs)
     (λ c κs. search needs)
     (λ c. search needs)

@@ -9,11 +9,11 @@ use Rattle.value.proofs.read_graph.Tie as tie
 
 returns : tie.Need-returns
 unfolding graphChecked badGraph
-returns c = rw (← c .before .run-in .ensures, form-short _ _ _ (c .if1 .taken))
+returns c = rw (← c .before .run-far .ensures, form-short _ _ _ (c .if1 .taken))
 
 returns-2 : tie.Need-returns-2
 unfolding graphChecked badGraph
-returns-2 c = rw (← c .before .before .run-in .ensures, form-well _ _ _ (c .before .if1 .left) refl) (c .sized .ensures)
+returns-2 c = rw (← c .before .before .run-far .ensures, form-well _ _ _ (c .before .if1 .left) refl) (c .sized .ensures)
 
 pub read-graph-spec : {M : Type 1} → statement M
 read-graph-spec = tie.close (tie.spec (λ c κs. search needs) returns (λ c κs. search needs) returns-2)

@@ -1,9 +1,7 @@
 use native.Mathlib.Omega.{arith}
 use Prim.Native.Nat.{_<_}
-use mathlib.Core.Path.{refl, ap, _∙_}
+use mathlib.Core.Path.{refl}
 use lib.ListN.{length-set}
-use Rattle.octet.specs.Splice.{splice}
-use Rattle.fill.specs.Entry.{entryPlaceOf}
 use Rattle.fill.proofs.Entry.{entry-put}
 use borrow.Author.Needs.{needs}
 use Rattle.fill.proofs.entries.entry_with.Statement.{statement}
@@ -16,7 +14,7 @@ put-text-requires-2 c κs = simp length-set (search needs)
 returns : tie.Need-returns
 returns c =
     let time = c .before in
-    let price = time .before .before .before .before .before in
+    let price = time .before .before .before in
     let shares = price .before .before .before in
     let exec = shares .before .before .before in
     let number = exec .before .before .before in
@@ -29,7 +27,7 @@ returns c =
     entry-put _ _ _ _ _ _ _ _ _ _ side transaction correction
     (trade .put-text .ensures) (number .put-four .ensures .1) refl refl refl
     (exec .put-text2 .ensures) (shares .put-four2 .ensures .1) (price .put-eight .ensures .1)
-    (time .copy-into .ensures .1 ∙ ap (splice _ (entryPlaceOf 8)) (c .before .before .before .time-field .ensures))
+    (time .put-time .ensures)
 
 pub entry-with-spec : {M : Type 1} → statement M
 entry-with-spec =
@@ -45,8 +43,6 @@ entry-with-spec =
     (λ c. search needs)
     (λ c. search needs)
     put-text-requires-2
-    (λ c. search needs)
-    (λ c κs. search needs)
     (λ c. search needs)
     (λ c κs. search needs)
     (λ c. search needs)
