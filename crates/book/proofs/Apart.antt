@@ -1,6 +1,6 @@
 -- Fills and entries stand apart: what is said of a fill is the same with a slot more that is no fill, and what is said of an entry with one that is no entry.
 -- (The day's orders and fills: Orders' orders-still and Counts' fills-still.)
---     find-apart, sum-apart, count-apart     a slot more that does not pass
+--     find-apart, last-apart, sum-apart, count-apart     a slot more that does not pass
 --     exec-apart, order-apart, key-apart     no fill has the ExecID or the order of a fill, no other slot the key of an entry
 --     find-exec-apart, find-order-apart, sum-order-apart, known-apart, place-fill-apart, fill-room-apart, orders-with-apart, carried-apart, step-apart
 --     of a fill
@@ -13,8 +13,8 @@ use Prim.Native.Nat.{ℕ, _+_}
 use native.Mathlib.Nat.{add-zero}
 use lib.Dec.{ltb, eqb}
 use Rattle.octet.specs.Bytes.{same}
-use Rattle.octet.specs.Maybe.{find, orElse, isNone}
-use Rattle.octet.proofs.Cases.{and-no-left, cond-false, orElse-none, find-append, find-later}
+use Rattle.octet.specs.Maybe.{find, findLast, orElse, isNone}
+use Rattle.octet.proofs.Cases.{and-no-left, cond-false, orElse-none, find-append, find-later, last-append}
 use Rattle.fill.specs.Slot.{Slot, isFill, isEntry, execOf, orderOf, sharesOf, cumOf}
 use Rattle.fill.specs.Entry.{keyOf}
 use Rattle.book.specs.Place.{sameExec, sameOrder, sumWhere, byOrder, byExec, placeFill, knownOrder, ordersWith, fillRoom, carried, inStep, mostFills, mostOrders}
@@ -26,6 +26,9 @@ use Rattle.book.proofs.Counts.{sum-append, count-end}
 module _ (p : Slot → Bool) (ss : List Slot) (s : Slot) (h : p s ≡ false) where
   pub find-apart : find p (ss ++ (s ∷ [])) ≡ find p ss
   find-apart = find-append p ss (s ∷ []) ∙ ap (orElse (find p ss)) (find-later p s [] h) ∙ orElse-none (find p ss)
+
+  pub last-apart : findLast p (ss ++ (s ∷ [])) ≡ findLast p ss
+  last-apart = last-append p ss (s ∷ []) ∙ ap (λ (o : Option Slot). orElse o (findLast p ss)) (cond-false (p s) (some s) none h)
 
   pub sum-apart : sumWhere p (ss ++ (s ∷ [])) ≡ sumWhere p ss
   unfolding sumWhere
@@ -45,8 +48,8 @@ module _ (e : Slot) (h : isFill e ≡ false) where
   order-apart f = and-no-left (isFill e) (same (orderOf f) (orderOf e)) h
 
   module _ (ss : List Slot) (f : Slot) where
-    pub find-exec-apart : find (sameExec f) (ss ++ (e ∷ [])) ≡ find (sameExec f) ss
-    find-exec-apart = find-apart (sameExec f) ss e (exec-apart f)
+    pub find-exec-apart : findLast (sameExec f) (ss ++ (e ∷ [])) ≡ findLast (sameExec f) ss
+    find-exec-apart = last-apart (sameExec f) ss e (exec-apart f)
 
     pub find-order-apart : find (sameOrder f) (ss ++ (e ∷ [])) ≡ find (sameOrder f) ss
     find-order-apart = find-apart (sameOrder f) ss e (order-apart f)
@@ -65,7 +68,7 @@ module _ (e : Slot) (h : isFill e ≡ false) where
 
     pub place-fill-apart : placeFill (ss ++ (e ∷ [])) f ≡ placeFill ss f
     unfolding placeFill
-    place-fill-apart = exec-by-apart (find (sameExec f) (ss ++ (e ∷ []))) ∙ ap (byExec ss f) find-exec-apart
+    place-fill-apart = exec-by-apart (findLast (sameExec f) (ss ++ (e ∷ []))) ∙ ap (byExec ss f) find-exec-apart
 
     pub fill-room-apart : (fills orders : ℕ) → fillRoom (ss ++ (e ∷ [])) fills orders f ≡ fillRoom ss fills orders f
     unfolding fillRoom

@@ -1,7 +1,7 @@
 -- What is said of any slot, by what it is: of an entry what is said of entries, and of every other what is said of fills.
 --     entry-no-fill, fill-no-entry     it is not both
 --     twins-as, place-as, room-as, load-as     by whether it is an entry
---     new-exec, new-key, new-alone     a new slot has no twin
+--     new-last, new-exec, new-key, new-alone     a new slot has no twin
 --     loads     a load is its counts
 use mathlib.Core.Path.{_≡_, refl, sym, ap, _∙_}
 use mathlib.Core.Logic.{⊎-elim}
@@ -14,8 +14,8 @@ use lib.ListN.{length}
 use lib.Dec.{ltb}
 use borrow.Author.Tests.{eqb-true, ne-eqb}
 use Rattle.octet.specs.Bytes.{same}
-use Rattle.octet.specs.Maybe.{find}
-use Rattle.octet.proofs.Cases.{bool-case, contrary}
+use Rattle.octet.specs.Maybe.{find, findLast}
+use Rattle.octet.proofs.Cases.{bool-case, contrary, last-none}
 use Rattle.answer.specs.Numbers.{fault, wrongValue}
 use Rattle.answer.specs.declared.Fault.{Fault}
 use Rattle.fill.specs.Slot.{Slot, isFill, isEntry, markOf, fillMark, entryMark}
@@ -57,13 +57,16 @@ found-old : (b : Bool) (g : Fault) → isNew (cond b Already (Clash g)) ≡ fals
 found-old true g = refl
 found-old false g = refl
 
-pub new-exec : (ss : List Slot) (f : Slot) → isNew (placeFill ss f) ≡ true → find (sameExec f) ss ≡ none
+pub new-last : (ss : List Slot) (f : Slot) → isNew (placeFill ss f) ≡ true → findLast (sameExec f) ss ≡ none
 unfolding placeFill byExec
-new-exec ss f h = by (find (sameExec f) ss) h
+new-last ss f h = by (findLast (sameExec f) ss) h
   where
     by : (o : Option Slot) → isNew (byExec ss f o) ≡ true → o ≡ none
     by none e = refl
     by (some k) e = contrary e (found-old (sameContents f k) (fault wrongValue 17))
+
+pub new-exec : (ss : List Slot) (f : Slot) → isNew (placeFill ss f) ≡ true → find (sameExec f) ss ≡ none
+new-exec ss f h = last-none (sameExec f) ss (new-last ss f h)
 
 pub new-key : (ss : List Slot) (e : Slot) → isNew (placeEntry ss e) ≡ true → find (sameKey e) ss ≡ none
 unfolding placeEntry byKey

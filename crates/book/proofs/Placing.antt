@@ -2,7 +2,7 @@
 -- Keyed has the same of an entry, and what becomes of any slot stands at the end.
 --     contents-by     same contents, from what each comparison said
 --     order-new, order-symbol, order-side, order-same     placement by the order
---     exec-new, exec-already, exec-clash, placed-by     placement
+--     exec-new, exec-already, exec-clash, placed-by, alone     placement
 --     room-last, room-full, room-few, room-known, room-by     room; has-room: what it says, of any slot
 --     fills-more, fills-same, orders-same, orders-one, orders-by     the counts
 --     step-by, booking-by     in step, and what a booking changes and answers
@@ -12,7 +12,7 @@
 --     admitted-clash, admitted-already, admitted-full, admitted-new     what an answer says of placement and room
 use mathlib.Core.Path.{_≡_, refl, sym, ap, ap₂, _∙_, subst}
 use mathlib.Core.List.{List, [], _∷_}
-use mathlib.Core.Option.{Option, some}
+use mathlib.Core.Option.{Option, none, some}
 use mathlib.Core.Bool.{Bool, true, false, cond, not, _&&_, _||_}
 use Prim.Native.Nat.{ℕ, suc, _+_, _≤_, _<_, min}
 use mathlib.Core.Logic.{⊎-elim}
@@ -22,17 +22,17 @@ use lib.ListN.{length}
 use lib.Dec.{ltb, eqb}
 use borrow.Author.Tests.{lt-ltb, le-ltb, ltb-true, ne-eqb}
 use Rattle.octet.specs.Bytes.{same}
-use Rattle.octet.specs.Maybe.{find, isNone}
+use Rattle.octet.specs.Maybe.{find, findLast, isNone}
 use Rattle.octet.proofs.Cases.{bool-case, cond-true, cond-false, of-cond, or-cases, and-both}
 use Rattle.answer.specs.Numbers.{fault, largest, counted}
 use Rattle.answer.specs.declared.Fault.{Fault}
 use Rattle.fill.specs.Slot.{Slot, isFill, isEntry, orderOf, sharesOf, priceOf, cumOf}
-use Rattle.book.specs.Place.{sameExec, sameOrder, sameSymbol, sameSide, sameContents, byOrder, byExec, placeFill}
+use Rattle.book.specs.Place.{sameExec, sameOrder, sameSymbol, sameSide, sameContents, byOrder, byExec, placeFill, isNew}
 use Rattle.book.specs.Place.{knownOrder, fillsWith, ordersWith, fillRoom, sumWhere, carried, inStep, mostFills, mostOrders}
 use Rattle.book.specs.Entries.{entryRoom, mostEntries}
 use Rattle.book.specs.Memory.{mostSlots, slotsIn}
 use Rattle.book.specs.Admitting.{place, hasRoom, loadWith, stopped, bookingOf, admitBy, admitOf}
-use Rattle.book.specs.Seeing.{someSlot, roomFor, ordersFor}
+use Rattle.book.specs.Seeing.{someSlot, roomFor, ordersFor, PlacedBy}
 use Rattle.book.specs.declared.Load.{Load}
 use Rattle.book.specs.declared.Booking.{Booking}
 use Rattle.book.specs.declared.Placed.{Placed}
@@ -41,7 +41,7 @@ use Rattle.book.specs.declared.Admitted.{Admitted}
 use Rattle.book.specs.declared.Admitted.the-variants as admitted
 use Rattle.book.proofs.Slots.{slots-length}
 use Rattle.book.proofs.Finds.{known-none, known-some}
-use Rattle.book.proofs.ByKind.{loads, place-as, room-as, load-as}
+use Rattle.book.proofs.ByKind.{loads, place-as, room-as, load-as, new-last}
 
 pub contents-by : (f k : Slot) {a b d e g : Bool} → same (orderOf f) (orderOf k) ≡ a → sameSymbol f k ≡ b → sameSide f k ≡ d → eqb (sharesOf f) (sharesOf k) ≡ e → eqb (priceOf f) (priceOf k) ≡ g
     → a && b && d && e && g ≡ sameContents f k
@@ -72,9 +72,9 @@ module _ (f k : Slot) where
 
 -- ---- placement
 module _ (ss : List Slot) (f k : Slot) where
-  pub exec-new : (o : Slot) (r : Placed) → length k ≡ 0 → someSlot o ≡ find (sameOrder f) ss → r ≡ byOrder f (someSlot o) → r ≡ byExec ss f (someSlot k)
+  pub exec-new : (o : Slot) (r : Placed) → length k ≡ 0 → (someSlot k ≡ none → someSlot o ≡ find (sameOrder f) ss) → r ≡ byOrder f (someSlot o) → r ≡ byExec ss f (someSlot k)
   unfolding byExec
-  exec-new o r h eo er = er ∙ ap (byOrder f) eo ∙ sym (ap (byExec ss f) (known-none k h))
+  exec-new o r h eo er = er ∙ ap (byOrder f) (eo (known-none k h)) ∙ sym (ap (byExec ss f) (known-none k h))
 
   module _ (some-bytes : length k ≡ 0 → ⊥) where
     pub exec-already : sameContents f k ≡ true → Already ≡ byExec ss f (someSlot k)
@@ -207,10 +207,14 @@ booking-load ss load s lf lo le r =
     (bool-case (isEntry s))
 
 -- ---- placement, from what a walk found
-pub placed-by : (ss : List Slot) (f twin known : Slot) (r : Placed) → isEntry f ≡ false → someSlot twin ≡ find (sameExec f) ss → someSlot known ≡ find (sameOrder f) ss
-    → ((tt : List Slot) → someSlot known ≡ find (sameOrder f) tt → r ≡ byExec tt f (someSlot twin)) → r ≡ place ss f
+pub placed-by : (ss : List Slot) (f twin known : Slot) (r : Placed) → isEntry f ≡ false → someSlot twin ≡ findLast (sameExec f) ss
+    → (findLast (sameExec f) ss ≡ none → someSlot known ≡ find (sameOrder f) ss) → PlacedBy f twin known r → r ≡ place ss f
 unfolding placeFill
-placed-by ss f twin known r h et ek er = er ss ek ∙ ap (byExec ss f) et ∙ sym (place-as f h ss)
+placed-by ss f twin known r h et ek er = er ss (λ n. ek (sym et ∙ n)) ∙ ap (byExec ss f) et ∙ sym (place-as f h ss)
+
+-- one that is new has no ExecID that is known
+pub alone : (ss : List Slot) (f : Slot) → isEntry f ≡ false → place ss f ≡ New → findLast (sameExec f) ss ≡ none
+alone ss f h e = new-last ss f (ap isNew (sym (place-as f h ss) ∙ e))
 
 -- ---- what becomes of a slot
 module _ (ss : List Slot) (load : Load) (s : Slot) where

@@ -6,7 +6,7 @@ use mathlib.Core.Option.{Option, none, some}
 use mathlib.Core.Bool.{Bool, true, false, cond, _&&_, _||_, not}
 use lib.Dec.{ltb, eqb}
 use Rattle.octet.specs.Bytes.{same}
-use Rattle.octet.specs.Maybe.{find, isNone}
+use Rattle.octet.specs.Maybe.{find, findLast, isNone}
 use Rattle.answer.specs.Numbers.{fault, wrongValue}
 use Rattle.fill.specs.Slot.{Slot, isFill, execOf, orderOf, symbolOf, sideOf, sharesOf, priceOf, cumOf}
 use Rattle.book.specs.declared.Placed.{Placed}
@@ -43,8 +43,9 @@ unfoldable pub byExec : List Slot → Slot → Option Slot → Placed
 byExec ss f none = byOrder f (find (sameOrder f) ss)
 byExec ss f (some k) = cond (sameContents f k) Already (Clash (fault wrongValue 17))
 
+-- of the fills with an ExecID the newest counts: in a day there is one at most
 unfoldable pub placeFill : List Slot → Slot → Placed
-placeFill ss f = byExec ss f (find (sameExec f) ss)
+placeFill ss f = byExec ss f (findLast (sameExec f) ss)
 
 abbrev pub isNew : Placed → Bool
 isNew (Clash f) = false

@@ -6,7 +6,7 @@ use mathlib.Core.Option.{Option, none, some}
 use mathlib.Core.Bool.{Bool, cond, not, _&&_, _||_}
 use lib.ListN.{drop}
 use lib.Dec.{ltb}
-use Rattle.octet.specs.Maybe.{find, isNone}
+use Rattle.octet.specs.Maybe.{find, findLast, isNone}
 use Rattle.octet.specs.Places.{wordAt}
 use Rattle.fill.specs.Slot.{Slot, slotWidth, execOf, orderOf, sharesOf}
 use Rattle.answer.specs.Numbers.{largest}
@@ -22,13 +22,12 @@ abbrev pub someSlot : Slot → Option Slot
 someSlot [] = none
 someSlot (b ∷ s) = some (b ∷ s)
 
--- what has been seen of f among slots that stand in the memory m: at the places the first with its ExecID and the first of its order, and the
--- order's booked sum
+-- what has been seen of f among slots that stand in the memory m: at its place the newest with its ExecID, where the walk ends; and where there is
+-- none, at its place the first of its order, and the order's booked sum
 abbrev pub Sees : List ℕ → Slot → List Slot → Seen → Type 0
 Sees m f ss seen =
-    (someSlot (slotAt (seen .exec) m) ≡ find (sameExec f) ss)
-    × (someSlot (slotAt (seen .order) m) ≡ find (sameOrder f) ss)
-    × (seen .booked ≡ sumWhere (sameOrder f) ss)
+    (someSlot (slotAt (seen .exec) m) ≡ findLast (sameExec f) ss)
+    × (findLast (sameExec f) ss ≡ none → (someSlot (slotAt (seen .order) m) ≡ find (sameOrder f) ss) × (seen .booked ≡ sumWhere (sameOrder f) ss))
 
 -- slots r to n of the memory may be passed over, for any fill of which these are the glances: what was seen after n is all that is seen after r
 abbrev pub Passes : List ℕ → Glance → Glance → ℕ → ℕ → Type 0
@@ -55,6 +54,6 @@ roomFor last load known =
 abbrev pub ordersFor : ℕ → Slot → ℕ
 ordersFor orders known = min (cond (not (isNone (someSlot known))) orders (orders + 1)) largest
 
--- where f is placed, from what a walk found: whatever the slots, among which `known` is the first of its order
+-- where f is placed, from what a walk found: whatever the slots, among which `known` is the first of its order, if no `twin` was found
 abbrev pub PlacedBy : Slot → Slot → Slot → Placed → Type 0
-PlacedBy f twin known r = (ss : List Slot) → someSlot known ≡ find (sameOrder f) ss → r ≡ byExec ss f (someSlot twin)
+PlacedBy f twin known r = (ss : List Slot) → (someSlot twin ≡ none → someSlot known ≡ find (sameOrder f) ss) → r ≡ byExec ss f (someSlot twin)

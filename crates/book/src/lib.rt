@@ -59,8 +59,8 @@ pub enum Admitted {
     New(Booking),
 }
 
-// What a walk has seen of a fill: the places of the first slot with its ExecID and of the first of its order, SLOTS where there
-// is none, and the order's booked sum.
+// What a walk has seen of a fill: the place of the slot with its ExecID, at which it ends; and where there is none the place of the
+// first of its order, and the order's booked sum. The place of none is SLOTS.
 struct Seen {
     exec: usize,
     order: usize,
@@ -218,7 +218,8 @@ fn pass_over(m: &[u8], n: usize, exec: Glance, order: Glance) -> usize
     i
 }
 
-// The one walk over the slots: n of them, from the last to the first, so that the first that is found is the last that is noted.
+// The one walk over the slots: n of them, from the last to the first, so that the first of an order is the last that is noted. It
+// ends at the ExecID: a report that is sent again is told by it alone.
 fn walk(m: &[u8], n: usize, slot: &[u8]) -> Seen
     requires { ⌜ (n ≤ mostSlots) × (length (now m) ≡ bookWidth) ⌝ }
     ensures { λ r. ⌜ Sees (now (m .entry)) (now (slot .entry)) (slotsIn n (now (m .entry))) r × (r .booked ≤ mostSlots * largest) ⌝ }
@@ -235,6 +236,9 @@ fn walk(m: &[u8], n: usize, slot: &[u8]) -> Seen
         i -= 1;
         let s = &m[i * SLOT..i * SLOT + SLOT];
         seen = see_order(see_exec(seen, exec, slot, s, i), order, slot, s, i);
+        if seen.exec < SLOTS {
+            return seen;
+        }
         i = pass_over(m, i, exec, order);
     }
     seen
@@ -290,7 +294,8 @@ fn by_order(slot: &[u8], known: &[u8]) -> Placed
 }
 
 // Where a fill stands among the day's: "ExecID (17) known today: same .. is already booked ..; anything different is Reject 5
-// tag 17". twin is the fill with its ExecID, known the first one of its order; no bytes where there is none.
+// tag 17". twin is the fill with its ExecID; where there is none, known is the first one of its order. No bytes say that there is
+// none.
 fn by_exec(slot: &[u8], twin: &[u8], known: &[u8]) -> Placed
     ensures { λ r. ⌜ PlacedBy (now (slot .entry)) (now (twin .entry)) (now (known .entry)) r ⌝ }
 {

@@ -1,12 +1,13 @@
--- Case laws: `cond`, `_&&_`, `_||_`, `not`, two numbers compared, and what may be there (`orElse`, `find`).
+-- Case laws: `cond`, `_&&_`, `_||_`, `not`, two numbers compared, and what may be there (`orElse`, `find`, `findLast`).
 use mathlib.Core.Path.{_≡_, refl, sym, ap, _∙_, subst}
 use mathlib.Core.Logic.{_⊎_, inl, inr, ⊎-elim}
 use mathlib.Core.List.{List, [], _∷_, _++_}
 use mathlib.Core.Option.{Option, none, some}
 use mathlib.Core.Bool.{Bool, true, false, not, cond, _&&_, _||_}
 use Prim.Native.Nat.{ℕ, zero, suc, zero-le, suc-le-suc, _≤_, _<_}
+use lib.ListN.{drop}
 use lib.Dec.{T}
-use Rattle.octet.specs.Maybe.{orElse, find}
+use Rattle.octet.specs.Maybe.{orElse, find, findLast}
 
 -- ---- a test is one or the other, and never both
 pub bool-case : (t : Bool) → (t ≡ true) ⊎ (t ≡ false)
@@ -120,6 +121,10 @@ module _ {A : Type 0} where
   orElse-none none = refl
   orElse-none (some a) = refl
 
+  pub orElse-neither : (o p : Option A) → orElse o p ≡ none → (o ≡ none) × (p ≡ none)
+  orElse-neither none p e = (refl, e)
+  orElse-neither (some a) p e = (e, cc)
+
   pub orElse-assoc : (o p q : Option A) → orElse (orElse o p) q ≡ orElse o (orElse p q)
   orElse-assoc none p q = refl
   orElse-assoc (some a) p q = refl
@@ -140,3 +145,32 @@ module _ {A : Type 0} where
   find-passes p [] a e = cc
   find-passes p (x ∷ xs) a e =
       of-cond (λ (o : Option A). o ≡ some a → p a ≡ true) (p x) (λ h f. (let g : x ≡ a = cc in ap p (sym g) ∙ h)) (λ h f. find-passes p xs a f) e
+
+  -- the last that passes
+  pub last-append : (p : A → Bool) (xs ys : List A) → findLast p (xs ++ ys) ≡ orElse (findLast p ys) (findLast p xs)
+  last-append p [] ys = sym (orElse-none (findLast p ys))
+  last-append p (x ∷ xs) ys =
+      let here = cond (p x) (some x) none in
+      ap (λ (o : Option A). orElse o here) (last-append p xs ys) ∙ orElse-assoc (findLast p ys) (findLast p xs) here
+
+  pub last-other : (p : A → Bool) (x : A) (xs : List A) → p x ≡ false → findLast p (x ∷ xs) ≡ findLast p xs
+  last-other p x xs e = ap (orElse (findLast p xs)) (cond-false (p x) (some x) none e) ∙ orElse-none (findLast p xs)
+
+  pub last-only : (p : A → Bool) (x : A) (xs : List A) → p x ≡ true → findLast p xs ≡ none → findLast p (x ∷ xs) ≡ some x
+  last-only p x xs e n = ap (λ (o : Option A). orElse o (cond (p x) (some x) none)) n ∙ cond-true (p x) (some x) none e
+
+  -- found among those at the end, it is found among all
+  pub last-drop : (p : A → Bool) (n : ℕ) (xs : List A) (a : A) → findLast p (drop n xs) ≡ some a → findLast p xs ≡ some a
+  last-drop p zero xs a e = e
+  last-drop p (suc n) [] a e = e
+  last-drop p (suc n) (x ∷ xs) a e = ap (λ (o : Option A). orElse o (cond (p x) (some x) none)) (last-drop p n xs a e)
+
+  -- where there is no last there is no first
+  pub last-none : (p : A → Bool) (xs : List A) → findLast p xs ≡ none → find p xs ≡ none
+  last-none p [] e = refl
+  last-none p (x ∷ xs) e =
+      let n = orElse-neither (findLast p xs) (cond (p x) (some x) none) e in
+      ⊎-elim
+      (λ h. (let f = sym (cond-true (p x) (some x) none h) ∙ n .1 in cc))
+      (λ h. find-later p x xs h ∙ last-none p xs (n .0))
+      (bool-case (p x))

@@ -1,4 +1,4 @@
--- What may be there: the first of two, what stands in, and the first of a list that passes a test.
+-- What may be there: the first of two, what stands in, and the first and the last of a list that passes a test.
 use mathlib.Core.List.{List, [], _∷_}
 use mathlib.Core.Option.{Option, none, some}
 use mathlib.Core.Bool.{Bool, true, false, cond}
@@ -26,3 +26,8 @@ first (x ∷ xs) = some x
 abbrev pub find : {A : Type 0} → (A → Bool) → List A → Option A
 find p [] = none
 find p (x ∷ xs) = let rest = find p xs in cond (p x) (some x) rest
+
+-- the last of a list that passes a test
+abbrev pub findLast : {A : Type 0} → (A → Bool) → List A → Option A
+findLast p [] = none
+findLast p (x ∷ xs) = orElse (findLast p xs) (cond (p x) (some x) none)

@@ -8,7 +8,7 @@ use native.Mathlib.Omega.{arith}
 use lib.ListN.{length, take}
 use lib.Dec.{leb}
 use Rattle.octet.specs.Bytes.{bytesOf, same}
-use Rattle.octet.specs.Maybe.{first, find}
+use Rattle.octet.specs.Maybe.{first, find, findLast}
 use Rattle.octet.proofs.Cases.{of-cond, contrary}
 use Rattle.frame.specs.Finding.{foundIn, bodyIn}
 use Rattle.frame.specs.declared.Found.{Found}
@@ -180,7 +180,7 @@ key-small e (some k) = of-cond SmallPlaced (same e k) (λ _. tt) (λ _. (omega a
 
 place-small : (ss : List Slot) (s : Slot) → SmallPlaced (place ss s)
 unfolding place placeEntry placeFill
-place-small ss s = of-cond SmallPlaced (isEntry s) (λ _. key-small s (find (sameKey s) ss)) (λ _. exec-small ss s (find (sameExec s) ss))
+place-small ss s = of-cond SmallPlaced (isEntry s) (λ _. key-small s (find (sameKey s) ss)) (λ _. exec-small ss s (findLast (sameExec s) ss))
 
 kept-small : (tag : ℕ) (kept : Bool) → tag < 1000 → SmallIf (unlessKept tag kept)
 kept-small tag kept h = of-cond SmallIf kept (λ _. tt) (λ _. (omega arith, omega arith))

@@ -4,7 +4,7 @@ use mathlib.Core.Path.{_≡_}
 use mathlib.Core.List.{List, [], _∷_, _++_}
 use mathlib.Core.Bool.{false}
 use lib.ListN.{length}
-use Rattle.octet.specs.Maybe.{find}
+use Rattle.octet.specs.Maybe.{find, findLast}
 use Rattle.field.specs.Pieces.{Pieces}
 use Rattle.answer.specs.declared.Setup.{Setup}
 use Rattle.answer.specs.declared.Outcome.the-variants.{Booked}
@@ -18,7 +18,7 @@ use Rattle.receiver.specs.Calls.{This, bringsOf, becomes, bookedAs, withSlot}
 -- an entry e after the slots ss: for every fill f
 pub record Apart (ss : List Slot) (e : Slot) : Type 0 where
   -- its ExecID is known as before
-  pub known : (f : Slot) → find (sameExec f) (ss ++ (e ∷ [])) ≡ find (sameExec f) ss
+  pub known : (f : Slot) → findLast (sameExec f) (ss ++ (e ∷ [])) ≡ findLast (sameExec f) ss
   -- its order's first fill is the same, so its symbol, its side and what was carried in; and so is its booked sum
   pub order : (f : Slot) → find (sameOrder f) (ss ++ (e ∷ [])) ≡ find (sameOrder f) ss
   pub sum : (f : Slot) → sumWhere (sameOrder f) (ss ++ (e ∷ [])) ≡ sumWhere (sameOrder f) ss
