@@ -3,11 +3,12 @@ use mathlib.Core.Path.{_≡_, refl, sym, ap, _∙_}
 use mathlib.Core.Logic.{_⊎_, inl, inr}
 use mathlib.Core.List.{List}
 use mathlib.Core.Option.{Option, none, some}
-use mathlib.Core.Bool.{Bool, true, false, cond}
+use mathlib.Core.Bool.{Bool, true, false, cond, _||_}
 use Prim.Native.Nat.{ℕ, _≤_, _<_}
 use native.Mathlib.Omega.{arith}
-use lib.Dec.{leb}
-use borrow.Author.Tests.{eq-eqb, ne-eqb, lt-ltb, le-ltb, le-leb, lt-leb}
+use lib.Dec.{leb, eqb}
+use denote.Enum.Declared.{tagOf}
+use borrow.Author.Tests.{ne-eqb, lt-ltb, le-ltb, le-leb, lt-leb}
 use Rattle.octet.proofs.Cases.{and-no-right}
 use Rattle.value.specs.Readers.{numberRead}
 use Rattle.value.specs.declared.Number.{Number}
@@ -15,6 +16,7 @@ use Rattle.value.specs.declared.Number.the-variants as number
 use Rattle.value.proofs.Numbers.{number-good}
 use Rattle.answer.specs.Numbers.{isKind}
 use Rattle.answer.specs.declared.Phase.{Phase}
+use Rattle.answer.proofs.Phase.{the-type}
 use Rattle.answer.specs.declared.Phase.the-variants as phase
 use Rattle.answer.specs.declared.Kind.the-variants as kind
 use Rattle.answer.specs.declared.Fault.{Fault}
@@ -62,10 +64,17 @@ module _ (s : Session) (m : Facts) where
     unfolding byPhase
     phase-sent p e h = rw e (ap Settled h)
 
-    pub phase-inside : (p : Phase) {v : Verdict} → (p ≡ phase.In) ⊎ (p ≡ phase.Closing) → v ≡ step4 s n m → v ≡ byPhase p s n m
+    -- In or Closing, as the match tells it: by their tags
+    pub phase-inside : (p : Phase) {v : Verdict} → (tagOf the-type p ≡ 2) ⊎ (tagOf the-type p ≡ 4) → v ≡ step4 s n m → v ≡ byPhase p s n m
     unfolding byPhase
-    phase-inside p (inl e) h = rw e h
-    phase-inside p (inr e) h = rw e h
+    phase-inside phase.Out (inl e) h = absurd (omega (arith, e))
+    phase-inside phase.Out (inr e) h = absurd (omega (arith, e))
+    phase-inside phase.Sent (inl e) h = absurd (omega (arith, e))
+    phase-inside phase.Sent (inr e) h = absurd (omega (arith, e))
+    phase-inside phase.Ended (inl e) h = absurd (omega (arith, e))
+    phase-inside phase.Ended (inr e) h = absurd (omega (arith, e))
+    phase-inside phase.In e h = h
+    phase-inside phase.Closing e h = h
 
     -- ---- step 3
     pub logon-other : {j : Judged} → isKind (m .kind) kind.Logon ≡ false → j ≡ ended s → j ≡ step3 s n m
@@ -85,22 +94,18 @@ module _ (s : Session) (m : Facts) where
     logon-fine e l g h = rw (e, le-leb (s .e) n l, g) h
 
     -- ---- step 4
-    pub turn-reset : {v : Verdict} → resetMode m ≡ true → v ≡ inTurn s n m (m .fault) → v ≡ step4 s n m
+    pub turn-now : {v : Verdict} → (resetMode m || eqb n (s .e)) ≡ true → v ≡ inTurn s n m (m .fault) → v ≡ step4 s n m
     unfolding step4
-    turn-reset e h = rw e h
+    turn-now e h = rw e h
 
-    module _ (e : resetMode m ≡ false) where
-      pub turn-now : {v : Verdict} → n ≡ s .e → v ≡ inTurn s n m (m .fault) → v ≡ step4 s n m
+    module _ (e : (resetMode m || eqb n (s .e)) ≡ false) where
+      pub turn-below : {j : Judged} → n < s .e → j ≡ below s m → Settled j ≡ step4 s n m
       unfolding step4
-      turn-now g h = rw (e, eq-eqb n (s .e) g) h
+      turn-below l h = rw (e, lt-ltb n (s .e) l) (ap Settled h)
 
-      pub turn-below : {j : Judged} → (n ≡ s .e → ⊥) → n < s .e → j ≡ below s m → Settled j ≡ step4 s n m
+      pub turn-above : {j : Judged} → s .e ≤ n → j ≡ gap s m → Settled j ≡ step4 s n m
       unfolding step4
-      turn-below g l h = rw (e, ne-eqb n (s .e) g, lt-ltb n (s .e) l) (ap Settled h)
-
-      pub turn-above : {j : Judged} → (n ≡ s .e → ⊥) → s .e ≤ n → j ≡ gap s m → Settled j ≡ step4 s n m
-      unfolding step4
-      turn-above g l h = rw (e, ne-eqb n (s .e) g, le-ltb n (s .e) l) (ap Settled h)
+      turn-above l h = rw (e, le-ltb n (s .e) l) (ap Settled h)
 
     -- ---- steps 5 to 7
     pub turn-faulty : (f : Option Fault) (reset : Bool) {g : Fault} {j : Judged} → f ≡ some g → resetMode m ≡ reset → j ≡ rejectedIf reset s n g → Settled j ≡ inTurn s n m f

@@ -13,7 +13,8 @@ use table::Judgement;
 use wire::Reply;
 use wire::Say;
 ghost use mathlib.Core.Path.{_≡_};
-ghost use mathlib.Core.Bool.{true, false, cond};
+ghost use mathlib.Core.Bool.{true, false, cond, _||_};
+ghost use lib.Dec.{eqb};
 ghost use Rattle.table.specs.Steps.{found};
 ghost use Rattle.answer.specs.Numbers.{kindNumber, isKind};
 ghost use Rattle.answer.specs.declared.Outcome.the-variants as outcome;
@@ -353,14 +354,21 @@ impl Session {
         self.settled(Outcome::Gap, Reply::Nothing)
     }
 
-    // Step 4, in phase 2 or 4: "type 4 without `123=Y` ignores its number".
+    // "type 4 without `123=Y` ignores its number".
+    fn is_turn(self, n: u32, m: Findings) -> bool
+        ensures { λ r. ⌜ r ≡ (resetMode (facts m) || eqb n (self .e)) ⌝ }
+    {
+        if is_reset(m) {
+            return true;
+        }
+        n == self.e
+    }
+
+    // Step 4, in phase 2 or 4.
     fn judge_turn(self, n: u32, m: Findings) -> Verdict
         ensures { λ r. ⌜ r ≡ step4 self n (facts m) ⌝ }
     {
-        if is_reset(m) {
-            return self.in_turn(n, m);
-        }
-        if n == self.e {
+        if self.is_turn(n, m) {
             return self.in_turn(n, m);
         }
         if n < self.e {
@@ -369,7 +377,8 @@ impl Session {
         Verdict::Settled(self.gap(m))
     }
 
-    // Steps 3 and 4, by phase. A message in phase 0 or 3 is refused before it comes to this.
+    // Steps 3 and 4, by phase. A message in phase 0 or 3 is refused before it comes to this. Each step is called in one place, so that it is compiled
+    // in place and copies no struct.
     fn by_phase(self, n: u32, m: Findings) -> Verdict
         ensures { λ r. ⌜ r ≡ byPhase (self .phase) self n (facts m) ⌝ }
     {
@@ -377,9 +386,8 @@ impl Session {
         match phase {
             Phase::Out => self.dropped(),
             Phase::Sent => Verdict::Settled(self.judge_logon(n, m)),
-            Phase::In => self.judge_turn(n, m),
             Phase::Ended => self.dropped(),
-            Phase::Closing => self.judge_turn(n, m),
+            Phase::In | Phase::Closing => self.judge_turn(n, m),
         }
     }
 

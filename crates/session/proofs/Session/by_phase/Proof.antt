@@ -12,13 +12,10 @@ returns-2 : tie.Need-returns-2
 returns-2 c = phase-sent _ _ _ _ (c .before .enum-told2 .given .1) (c .judge-logon .ensures)
 
 returns-3 : tie.Need-returns-3
-returns-3 c = phase-inside _ _ _ _ (inl (c .before .enum-told3 .given .1)) (c .judge-turn .ensures)
+returns-3 c = phase-off _ _ _ _ (inr (c .before .enum-told3 .given .1)) (c .dropped2 .ensures)
 
 returns-4 : tie.Need-returns-4
-returns-4 c = phase-off _ _ _ _ (inr (c .before .enum-told4 .given .1)) (c .dropped2 .ensures)
-
-returns-5 : tie.Need-returns-5
-returns-5 c = phase-inside _ _ _ _ (inr (c .before .enum-told5 .given .1)) (c .judge-turn2 .ensures)
+returns-4 c = phase-inside _ _ _ _ (c .before .match .keys4) (c .judge-turn .ensures)
 
 pub by-phase-spec : {M : Type 1} → statement M
 by-phase-spec =
@@ -30,12 +27,8 @@ by-phase-spec =
     (λ c κs. search needs)
     (λ c. search needs)
     (λ c κs. search needs)
-    (λ c. search needs)
-    (λ c κs. search needs)
-    (λ c. search needs)
     (λ c κs. search needs)
     returns
     returns-2
     returns-3
-    returns-4
-    returns-5)
+    returns-4)
