@@ -2,6 +2,7 @@
 --     exactly-yes, exactly-no     "exactly when", by its first side
 --     rules-told     the rules in their order, from what each said
 --     slot-read, entry-read     the slot of a fill and of an entry, from the values read: of a code one byte
+--     slot-after     a lent slot after a report, by what it said
 use mathlib.Core.Path.{_≡_, refl, sym, ap, _∙_}
 use mathlib.Core.List.{List, [], _∷_}
 use mathlib.Core.Bool.{Bool, true, false, not, Bool·beq}
@@ -15,10 +16,11 @@ use Rattle.value.specs.Value.{priceIn}
 use Rattle.field.specs.Look.{Look}
 use Rattle.table.specs.Steps.{numberOf}
 use Rattle.parts.specs.Parts.{laid}
-use Rattle.fill.specs.Slot.{fillOf, bodyOf, slotOf}
+use Rattle.fill.specs.Slot.{Slot, fillOf, bodyOf, slotOf}
 use Rattle.fill.specs.Entry.{entryOf, entryBody, entrySlot}
 use Rattle.report.specs.declared.Sums.{Sums}
-use Rattle.report.specs.Report.{reportWith, rule14, rule151, rule150, rule39, unlessKept, ruleFault, slotFor}
+use Rattle.report.specs.declared.Reported.{Reported}
+use Rattle.report.specs.Report.{reportWith, rule14, rule151, rule150, rule39, unlessKept, ruleFault, reportedOf, slotFor, slotOn, slotAfter}
 use Rattle.report.specs.Correction.{entryFor}
 
 -- one thing is so exactly when another is
@@ -58,3 +60,7 @@ pub entry-read : (look : Look) {r trade exec time : List ℕ} {number side trans
 unfolding entryFor entryBody laid
 entry-read look er et en ed ex ec ee es ep em =
     er ∙ rw (et, en, ed, ex, ec, ee, es, ep, em, one-place (numberOf look 54), one-place (numberOf look 20), one-place (numberOf look 9020))
+
+pub slot-after : (look : Look) (before : Slot) {r : Reported} → r ≡ reportedOf look → slotOn look before r ≡ slotAfter look before
+unfolding slotAfter
+slot-after look before e = ap (slotOn look before) e

@@ -91,6 +91,15 @@ fillOf look = record {
 unfoldable pub slotFor : Look → Slot
 slotFor look = slotOf (bodyOf (fillOf look))
 
+-- a lent slot after a report: its fill's, where it tells of one, and else as it was
+abbrev pub slotOn : Look → Slot → Reported → Slot
+slotOn look before (Faulty f) = before
+slotOn look before Aside = before
+slotOn look before reported.Fill = slotFor look
+
+unfoldable pub slotAfter : Look → Slot → Slot
+slotAfter look before = slotOn look before (reportedOf look)
+
 -- ---- on the pieces of a body
 
 abbrev pub reportIn : Pieces → Report

@@ -15,7 +15,7 @@ ghost use Rattle.value.specs.Value.{priceIn};
 ghost use Rattle.answer.specs.Numbers.{fault, wrongValue};
 ghost use Rattle.field.specs.Look.{lookIn};
 ghost use Rattle.table.specs.Steps.{numberOf, found};
-ghost use Rattle.report.specs.Report.{sumsOf, reportWith, rule14, rule151, rule150, rule39, ruleFault, reportedOf, slotFor};
+ghost use Rattle.report.specs.Report.{sumsOf, reportWith, rule14, rule151, rule150, rule39, ruleFault, reportedOf, slotFor, slotAfter};
 ghost use Rattle.report.specs.Correction.{entryFor};
 
 // What a report says: it breaks a rule, it is set aside, or it tells of a fill.
@@ -109,11 +109,11 @@ fn rule_fault<'a>(sums: Sums, kind: &'a [u8], status: &'a [u8]) -> Judgement
     Judgement::Fine
 }
 
-// What a report says, by its body's index: the rules, and after them "A report with 442 is set aside".
-pub fn reported_at(body: &[u8], index: &Index) -> Reported
+// What a report says, whose sums were read: the rules, and after them "A report with 442 is set aside".
+fn reported_by(sums: Sums, body: &[u8], index: &Index) -> Reported
+    requires { ⌜ sums ≡ sumsOf (lookIn (now body) (now index)) ⌝ }
     ensures { λ r. ⌜ r ≡ reportedOf (lookIn (now (body .entry)) (now (index .entry))) ⌝ }
 {
-    let sums = sums_at(body, index);
     let kind = value_at(body, index, tags::EXEC_TYPE);
     let status = value_at(body, index, tags::STATUS);
     match rule_fault(sums, kind, status) {
@@ -137,11 +137,12 @@ fn price_at(body: &[u8], index: &Index) -> u64
 fn code_at(body: &[u8], index: &Index, tag: u32) -> u8
     ensures { λ r. ⌜ r ≡ numberOf (lookIn (now (body .entry)) (now (index .entry))) tag % 256 ⌝ }
 {
-    (number_at(body, index, tag) % 256) as u8
+    (value::number_of(value_at(body, index, tag)) % 256) as u8
 }
 
-// The slot of the fill that a report tells of, by its body's index.
-pub fn slot_at(body: &[u8], index: &Index) -> [u8; SLOT]
+// The slot of the fill that a report tells of, whose sums were read.
+fn slot_by(sums: Sums, body: &[u8], index: &Index) -> [u8; SLOT]
+    requires { ⌜ sums ≡ sumsOf (lookIn (now body) (now index)) ⌝ }
     ensures { λ r. ⌜ r ≡ slotFor (lookIn (now (body .entry)) (now (index .entry))) ⌝ }
 {
     let exec = value_at(body, index, tags::EXEC_ID);
@@ -150,19 +151,37 @@ pub fn slot_at(body: &[u8], index: &Index) -> [u8; SLOT]
         value_at(body, index, tags::ORDER_ID),
         value_at(body, index, tags::SYMBOL),
         code_at(body, index, tags::SIDE),
-        number_at(body, index, tags::ORDER_QTY),
-        number_at(body, index, tags::LAST_SHARES),
+        sums.quantity,
+        sums.shares,
         price_at(body, index),
-        number_at(body, index, tags::CUM_QTY),
+        sums.cum,
         value_at(body, index, tags::TIME),
     )
 }
 
-// The slot of the entry that a Trade Cancel/Correct tells of, by its body's index.
-pub fn entry_at(body: &[u8], index: &Index) -> [u8; SLOT]
-    ensures { λ r. ⌜ r ≡ entryFor (lookIn (now (body .entry)) (now (index .entry))) ⌝ }
+// What a report says, by its body's index. The slot of a fill is written into the lent one, and no other answer touches that.
+pub fn reported_into(body: &[u8], index: &Index, slot: &mut [u8; SLOT]) -> Reported
+    ensures { λ r. ⌜
+        (r ≡ reportedOf (lookIn (now (body .entry)) (now (index .entry))))
+        × (now (slot .exit) ≡ slotAfter (lookIn (now (body .entry)) (now (index .entry))) (now (slot .entry)))
+        ⌝ }
 {
-    fill::entry_with(
+    let sums = sums_at(body, index);
+    match reported_by(sums, body, index) {
+        Reported::Faulty(f) => Reported::Faulty(f),
+        Reported::Aside => Reported::Aside,
+        Reported::Fill => {
+            *slot = slot_by(sums, body, index);
+            Reported::Fill
+        }
+    }
+}
+
+// The slot of the entry that a Trade Cancel/Correct tells of, by its body's index, into the lent one.
+pub fn entry_into(body: &[u8], index: &Index, slot: &mut [u8; SLOT])
+    ensures { λ _. ⌜ now (slot .exit) ≡ entryFor (lookIn (now (body .entry)) (now (index .entry))) ⌝ }
+{
+    *slot = fill::entry_with(
         value_at(body, index, tags::TRADE_ID),
         number_at(body, index, tags::CORRECTION_NUM),
         code_at(body, index, tags::SIDE),
@@ -172,5 +191,5 @@ pub fn entry_at(body: &[u8], index: &Index) -> [u8; SLOT]
         number_at(body, index, tags::LAST_SHARES),
         price_at(body, index),
         value_at(body, index, tags::TIME),
-    )
+    );
 }

@@ -1,8 +1,9 @@
+-- The slot of an entry, in the lent bytes.
 use borrow.Author.Needs.{needs}
 use Rattle.field.specs.Look.{lookIn}
 use Rattle.report.proofs.Rules.{entry-read}
-use Rattle.report.proofs.entry_at.Statement.{statement}
-use Rattle.report.proofs.entry_at.Tie as tie
+use Rattle.report.proofs.entry_into.Statement.{statement}
+use Rattle.report.proofs.entry_into.Tie as tie
 
 returns : tie.Need-returns
 returns c =
@@ -21,8 +22,8 @@ returns c =
     (trade .value-at .ensures) (number .number-at .ensures .0) (side .code-at .ensures) (transaction .code-at2 .ensures) (correction .code-at3 .ensures)
     (exec .value-at2 .ensures) (shares .number-at2 .ensures .0) (price .price-at .ensures) (time .value-at3 .ensures)
 
-pub entry-at-spec : {M : Type 1} → statement M
-entry-at-spec =
+pub entry-into-spec : {M : Type 1} → statement M
+entry-into-spec =
     tie.close
     (tie.spec
     (λ c κs. search needs)
