@@ -5,8 +5,9 @@ use mathlib.Core.List.{List}
 use Rattle.answer.specs.declared.Setup.{Setup}
 use Rattle.field.specs.Pieces.{piecesOf, scanOf}
 use Rattle.field.specs.Index.{indexOf}
-use Rattle.field.specs.Look.{lookIn}
+use Rattle.field.specs.Look.{lookOf, lookIn}
 use Rattle.field.proofs.Looks.{look-by}
+use Rattle.session.proofs.Listed.{facts-listed}
 use Rattle.field.specs.declared.Scan.{Scan}
 use Rattle.session.specs.Reading.{Facts, factsOf, factsIn}
 use Rattle.session.specs.Judging.{judgedBy, judge}
@@ -35,7 +36,9 @@ pub judged-body : {setup setup′ : Setup} {s s′ : Session} (body : List ℕ) 
 unfolding judge factsIn
 judged-body {setup} {setup′} {s} {s′} body {index = index} p q own read e =
     e
-    ∙ ap (judgedBy s) (read ∙ ap (λ (x : Scan). factsOf setup s x (lookIn body index)) (own .0) ∙ ap (factsOf setup s (scanOf (piecesOf body))) (look-by body (own .1)))
+    ∙ ap (judgedBy s)
+    (read ∙ ap (λ (x : Scan). factsOf setup s x (lookIn body index)) (own .0) ∙ ap (factsOf setup s (scanOf (piecesOf body))) (look-by body (own .1))
+    ∙ facts-listed (lookOf (piecesOf body)) setup s (scanOf (piecesOf body)))
     ∙ ap (λ (x : Setup). judge x s (piecesOf body)) p
     ∙ ap (λ (x : Session). judge setup′ x (piecesOf body)) q
 

@@ -88,7 +88,7 @@ module _ (p : Slot → Bool) (passed : p [] ≡ false) where
   last-inside =
       only-inside (findLast p) (λ ss. last-other p [] ss passed) (λ s xs ys e. ap (λ (o : Option Slot). orElse o (cond (p s) (some s) none)) e)
 
-  pub sum-other : (s : Slot) (ss : List Slot) → p s ≡ false → sumWhere p (s ∷ ss) ≡ sumWhere p ss
+  sum-other : (s : Slot) (ss : List Slot) → p s ≡ false → sumWhere p (s ∷ ss) ≡ sumWhere p ss
   unfolding sumWhere
   sum-other s ss h = rw h (zero-add (sumWhere p ss))
 
@@ -198,7 +198,7 @@ module _ (m : List ℕ) (f : Slot) where
       let e = last-other (sameExec f) s ss hx in
       (w .0 ∙ sym e, λ z. (let v = w .1 (sym e ∙ z) in (v .0 ∙ sym (find-later (sameOrder f) s ss hy), v .1 ∙ sym (sum-other (sameOrder f) (order-empty f) s ss hy))))
 
-  pub sees-other : (n i j : ℕ) (s : Slot) (a : Seen) → j ≡ i + 1 → i < n → s ≡ part (i * slotWidth) slotWidth m → sameExec f s ≡ false → sameOrder f s ≡ false
+  sees-other : (n i j : ℕ) (s : Slot) (a : Seen) → j ≡ i + 1 → i < n → s ≡ part (i * slotWidth) slotWidth m → sameExec f s ≡ false → sameOrder f s ≡ false
       → Sees m f (slotsIn (n - j) (drop (j * slotWidth) m)) a → Sees m f (slotsIn (n - i) (drop (i * slotWidth) m)) a
   sees-other n i j s a ej h es hx hy = on n i j a a ej h (λ ss w. subst (λ (x : Slot). Sees m f (x ∷ ss) a) es (other s ss a hx hy w))
 

@@ -20,11 +20,9 @@ use Rattle.octet.proofs.Cases.{le-or-lt}
 use Rattle.octet.proofs.Lists.{drop-done, length-part, part-drop, until-most, drop-take}
 use Rattle.text.specs.Decimal.{digitRun}
 use Rattle.field.specs.Pieces.{Pieces, onFirst, piecesOf, tagged, tagOf, valueAfter, valued, carries, valuesOf, textAt, pieceScan, scanOf, andThen}
-use Rattle.field.specs.Stands.{pieceAt, located, orHere, placeFrom, placeOf, stepOf, pieceFault, hits}
+use Rattle.field.specs.Stands.{Place, At, Missing, pieceAt, located, orHere, placeFrom, placeOf, stepOf, pieceFault, hits}
 use Rattle.field.specs.declared.Scan.{Scan}
 use Rattle.field.specs.declared.Scan.the-variants.{Sound, Malformed, Empty}
-use Rattle.field.specs.declared.Place.{Place}
-use Rattle.field.specs.declared.Place.the-variants.{At, Missing}
 use Rattle.field.specs.declared.Step.{Step}
 use Rattle.field.specs.declared.Piece.{Piece}
 use Rattle.field.specs.declared.Piece.the-variants.{Field, Stray}

@@ -13,9 +13,8 @@ use lib.Dec.{eqb, ltb}
 use borrow.Author.Tests.{eqb-true, eqb-false, ltb-true, lt-ltb, eq-eqb, ne-eqb, not-true}
 use Rattle.octet.proofs.Cases.{and-both}
 use Rattle.field.specs.Pieces.{piecesOf, countOf}
-use Rattle.field.specs.Stands.{located, placeFrom, placeOf}
+use Rattle.field.specs.Stands.{At, located, placeFrom, placeOf}
 use Rattle.field.specs.Index.{listed, columnCount, position, columnOf, startIn, lenIn, indexOf, startAt, lenAt, countAt, setCount, notedAt, noted}
-use Rattle.field.specs.declared.Place.the-variants.{At}
 use Rattle.field.specs.declared.Piece.{Piece}
 use Rattle.field.specs.declared.Piece.the-variants.{Field, Stray}
 use Rattle.field.proofs.Cuts.{hitsIn, count-at}

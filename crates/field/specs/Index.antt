@@ -1,13 +1,11 @@
 -- The index of a body, as it is lent: of each listed tag where the value of its first field stands, how long that is and how often the tag stands.
 use Prim.Native.Nat.{ℕ, suc, _+_}
 use mathlib.Core.List.{List, [], _∷_, _++_, map}
-use mathlib.Core.Bool.{cond}
+use mathlib.Core.Bool.{Bool, cond}
 use lib.ListN.{getD, set}
 use lib.Dec.{eqb, ltb}
 use Rattle.field.specs.Pieces.{piecesOf, countOf}
-use Rattle.field.specs.Stands.{placeOf}
-use Rattle.field.specs.declared.Place.{Place}
-use Rattle.field.specs.declared.Place.the-variants.{At, Missing}
+use Rattle.field.specs.Stands.{Place, At, Missing, placeOf}
 use Rattle.field.specs.declared.Piece.{Piece}
 use Rattle.field.specs.declared.Piece.the-variants.{Field, Stray}
 
@@ -28,6 +26,9 @@ position (t ∷ ts) u = let later = suc (position ts u) in cond (eqb u t) 0 late
 
 unfoldable pub columnOf : ℕ → ℕ
 columnOf tag = position listed tag
+
+abbrev pub isListed : ℕ → Bool
+isListed tag = ltb (columnOf tag) columnCount
 
 -- ---- the index: the starts, the lengths and the counts, each by columns
 

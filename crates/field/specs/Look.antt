@@ -1,12 +1,12 @@
 -- A look at the fields of a body, by which everything above is defined: how often a tag stands, and its value.
 use Prim.Native.Nat.{ℕ}
-use mathlib.Core.List.{List}
+use mathlib.Core.List.{List, []}
 use mathlib.Core.Option.{Option, none, some}
 use mathlib.Core.Bool.{cond}
 use lib.Dec.{eqb, ltb}
 use Rattle.octet.specs.Bytes.{part}
-use Rattle.field.specs.Pieces.{Pieces, piecesOf, textAt, countOf}
-use Rattle.field.specs.Index.{columnCount, columnOf, startAt, lenAt, countAt}
+use Rattle.field.specs.Pieces.{Pieces, textAt, countOf}
+use Rattle.field.specs.Index.{columnCount, columnOf, isListed, startAt, lenAt, countAt}
 
 pub record Look : Type 0 where
   -- how often a tag stands, 2 for more than once
@@ -18,12 +18,21 @@ pub record Look : Type 0 where
 abbrev pub lookOf : Pieces → Look
 lookOf ps = record { count = λ (tag : ℕ). countOf tag ps; text = λ (tag : ℕ). textAt tag ps }
 
--- by an index that is lent with it: a listed tag by its column, another by the body. Where the index is the body's own it is the look at its pieces (proofs/Looks)
+-- by an index that is lent with it: what stands in a column, and nothing where there is no such column
+abbrev pub countIn : List ℕ → ℕ → ℕ
+countIn index k = cond (ltb k columnCount) (countAt index k) 0
+
+abbrev pub textIn : List ℕ → List ℕ → ℕ → List ℕ
+textIn body index k = cond (ltb k columnCount) (part (startAt index k) (lenAt index k) body) []
+
 unfoldable pub lookIn : List ℕ → List ℕ → Look
-lookIn body index = record {
-  count = λ (tag : ℕ). cond (ltb (columnOf tag) columnCount) (countAt index (columnOf tag)) (countOf tag (piecesOf body));
-  text = λ (tag : ℕ).
-      cond (ltb (columnOf tag) columnCount) (part (startAt index (columnOf tag)) (lenAt index (columnOf tag)) body) (textAt tag (piecesOf body));
+lookIn body index = record { count = λ (tag : ℕ). countIn index (columnOf tag); text = λ (tag : ℕ). textIn body index (columnOf tag) }
+
+-- "Unlisted tags are passed over": a look at listed tags alone. So a body is looked at by its own index (proofs/Looks)
+unfoldable pub atListed : Look → Look
+atListed look = record {
+  count = λ (tag : ℕ). cond (isListed tag) (look .count tag) 0;
+  text = λ (tag : ℕ). cond (isListed tag) (look .text tag) [];
 }
 
 -- the first field of a tag

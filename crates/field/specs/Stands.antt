@@ -9,8 +9,6 @@ use Rattle.text.specs.Decimal.{digitRun}
 use Rattle.field.specs.Pieces.{Pieces, piecesOf, tagged, tagOf}
 use Rattle.field.specs.declared.Scan.{Scan}
 use Rattle.field.specs.declared.Scan.the-variants.{Sound, Malformed, Empty}
-use Rattle.field.specs.declared.Place.{Place}
-use Rattle.field.specs.declared.Place.the-variants.{At, Missing}
 use Rattle.field.specs.declared.Piece.{Piece}
 use Rattle.field.specs.declared.Piece.the-variants.{Field, Stray}
 use Rattle.field.specs.declared.Step.{Step}
@@ -25,6 +23,11 @@ located at [] = []
 located at (p ∷ ps) = let rest = located (at + length p + 1) ps in pieceAt at p ∷ rest
 
 -- ---- the pieces of one tag
+
+-- where a value stands and how long it is, or that there is none
+pub data Place : Type 0 where
+  At : ℕ → ℕ → Place
+  Missing : Place
 
 abbrev pub orHere : ℕ → Piece → Place → Place
 orHere tag Stray later = later

@@ -3,7 +3,7 @@ use mathlib.Core.Path.{_≡_, refl, sym, ap, _∙_, subst}
 use mathlib.Core.Logic.{_⊎_, inl, inr, ⊎-elim}
 use mathlib.Core.List.{List, [], _∷_, _++_, reverse, reverse-cons, append-assoc, append-nil}
 use mathlib.Core.Bool.{Bool, true, false, _&&_, and-assoc, and-comm, and-true}
-use Prim.Native.Nat.{ℕ, zero, suc, _+_, _-_, _≤_, _<_}
+use Prim.Native.Nat.{ℕ, zero, suc, _+_, _-_, _≤_, _<_, min}
 use native.Mathlib.Nat.{add-sub-cancel-left, zero-sub, sub-zero, min-le-left, le-of-eq, add-zero}
 use native.Mathlib.Numerals.{add-one}
 use native.Mathlib.Omega.{arith}
@@ -216,6 +216,14 @@ until-in b low high (x ∷ s) e h =
 pub until-most : (b : ℕ) (s : List ℕ) → untilByte b s ≤ length s
 until-most b [] = omega arith
 until-most b (x ∷ s) = of-cond (λ (n : ℕ). n ≤ suc (length s)) (eqb x b) (λ e. omega arith) (λ e. omega (arith, until-most b s))
+
+-- among the first n bytes
+pub until-take : (b n : ℕ) (s : List ℕ) → untilByte b (take n s) ≡ min n (untilByte b s)
+until-take b zero s = omega arith
+until-take b (suc n) [] = omega arith
+until-take b (suc n) (x ∷ s) =
+    of-cond (λ (m : ℕ). m ≡ min (suc n) (untilByte b (x ∷ s))) (eqb x b)
+    (λ e. rw e (omega arith)) (λ e. rw e (omega (arith, until-take b n s)))
 
 -- what may be passed over, and the count from there on
 pub until-from : (b i : ℕ) (s : List ℕ) → i ≤ untilByte b s → untilByte b s ≡ i + untilByte b (drop i s)

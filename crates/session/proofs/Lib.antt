@@ -1,4 +1,5 @@
 pub mod Turns
 pub mod Leaving
+pub mod Listed
 pub mod Answers
 pub mod Unique

@@ -7,11 +7,13 @@ use super::Row;
 use super::Where;
 use answer::Kind;
 use answer::Setup;
+use field::columns;
 ghost use mathlib.Core.Path.{_≡_};
-ghost use lib.ListN.{length};
+ghost use Rattle.answer.specs.declared.Kind.the-variants as kind;
 ghost use Rattle.table.specs.Rows.{headerRows, reportRows, correctionRows, rowsOf, tableOf, cellOf, kindOf};
 
-// A row of the header, of a report and of a correction is a constant of its own, so that one is laid out where one is asked for.
+// Each row is a constant of its own, so that one is laid out where one is asked for. The rows of a type are taken in order, by their place, each with the column
+// that its tag has in a body's index: so no tag is looked up.
 
 // "all: 52 UTC time; optional 43, 97: Y or N".
 const SENT: Row = Row::Needs(52, Form::Time, Where::Always);
@@ -51,8 +53,6 @@ const TIME: Row = Row::Needs(60, Form::Time, Where::Always);
 
 const MULTI_LEG: Row = Row::May(442, Form::Code(Codes::Legs), Where::Always);
 
-const REPORT_ROWS: usize = 14;
-
 // UCC, source document 003, section 5.2, in its order: the rows that a report has too are the report's own constants.
 const TRANSACTIONS: Row = Row::Needs(20, Form::Code(Codes::Transactions), Where::Always);
 
@@ -72,41 +72,37 @@ const ORIGINAL_TIME: Row = Row::Needs(42, Form::Time, Where::Always);
 
 const SECURITY: Row = Row::Needs(167, Form::Security, Where::Always);
 
-const CORRECTION_ROWS: usize = 14;
-
 // A: "98 is 0; 108 is 0 to 3,600; optional 141 is N".
-const LOGON: [Row; 3] = [
-    Row::Needs(98, Form::Number(Range::Of(0, 0)), Where::Always),
-    Row::Needs(108, Form::Number(Range::Of(0, 3_600)), Where::Always),
-    Row::May(141, Form::Code(Codes::No), Where::Always),
-];
+const ENCRYPTION: Row = Row::Needs(98, Form::Number(Range::Of(0, 0)), Where::Always);
+
+const INTERVAL: Row = Row::Needs(108, Form::Number(Range::Of(0, 3_600)), Where::Always);
+
+const RESET_NUMBERS: Row = Row::May(141, Form::Code(Codes::No), Where::Always);
 
 // 0: "optional 112, 1 to 32 bytes".
-const HEARTBEAT: [Row; 1] = [Row::May(112, Form::Text(Range::Of(1, 32)), Where::Always)];
+const WORD_HEARD: Row = Row::May(112, Form::Text(Range::Of(1, 32)), Where::Always);
 
 // 1: "112, 1 to 32 bytes".
-const TEST: [Row; 1] = [Row::Needs(112, Form::Text(Range::Of(1, 32)), Where::Always)];
+const WORD_ASKED: Row = Row::Needs(112, Form::Text(Range::Of(1, 32)), Where::Always);
 
 // 2: "7 is 1 to O−1; 16 is 0 or at least 7's".
-const RESEND: [Row; 2] = [
-    Row::Needs(7, Form::Number(Range::Written), Where::Always),
-    Row::Needs(16, Form::Number(Range::NoneOrFrom(7)), Where::Always),
-];
+const FROM: Row = Row::Needs(7, Form::Number(Range::Written), Where::Always);
+
+const UP_TO: Row = Row::Needs(16, Form::Number(Range::NoneOrFrom(7)), Where::Always);
 
 // 4: "optional 123: Y or N; 36 is 1 to 999,999,999".
-const RESET: [Row; 2] = [
-    Row::May(123, Form::Code(Codes::YesNo), Where::Always),
-    Row::Needs(36, Form::Number(Range::Of(1, 999_999_999)), Where::Always),
-];
+const FILLING: Row = Row::May(123, Form::Code(Codes::YesNo), Where::Always);
+
+const TO: Row = Row::Needs(36, Form::Number(Range::Of(1, 999_999_999)), Where::Always);
 
 // The row at a place of the header's.
 fn header_row(i: usize) -> Cell
     ensures { λ r. ⌜ r ≡ cellOf headerRows i ⌝ }
 {
     match i {
-        0 => Cell::Here(SENT),
-        1 => Cell::Here(AGAIN),
-        2 => Cell::Here(RESENT),
+        0 => Cell::Here(SENT, columns::SENT),
+        1 => Cell::Here(AGAIN, columns::AGAIN),
+        2 => Cell::Here(RESENT, columns::RESENT),
         _ => Cell::End,
     }
 }
@@ -116,20 +112,20 @@ fn report_row(i: usize) -> Cell
     ensures { λ r. ⌜ r ≡ cellOf reportRows i ⌝ }
 {
     match i {
-        0 => Cell::Here(EXEC_ID),
-        1 => Cell::Here(ORDER_ID),
-        2 => Cell::Here(TRANSACTION),
-        3 => Cell::Here(SYMBOL),
-        4 => Cell::Here(SIDE),
-        5 => Cell::Here(ORDER_QTY),
-        6 => Cell::Here(LAST_SHARES),
-        7 => Cell::Here(LAST_PRICE),
-        8 => Cell::Here(CUM_QTY),
-        9 => Cell::Here(LEAVES_QTY),
-        10 => Cell::Here(EXEC_TYPE),
-        11 => Cell::Here(STATUS),
-        12 => Cell::Here(TIME),
-        13 => Cell::Here(MULTI_LEG),
+        0 => Cell::Here(EXEC_ID, columns::EXEC_ID),
+        1 => Cell::Here(ORDER_ID, columns::ORDER_ID),
+        2 => Cell::Here(TRANSACTION, columns::TRANSACTION),
+        3 => Cell::Here(SYMBOL, columns::SYMBOL),
+        4 => Cell::Here(SIDE, columns::SIDE),
+        5 => Cell::Here(ORDER_QTY, columns::ORDER_QTY),
+        6 => Cell::Here(LAST_SHARES, columns::LAST_SHARES),
+        7 => Cell::Here(LAST_PRICE, columns::LAST_PRICE),
+        8 => Cell::Here(CUM_QTY, columns::CUM_QTY),
+        9 => Cell::Here(LEAVES_QTY, columns::LEAVES_QTY),
+        10 => Cell::Here(EXEC_TYPE, columns::EXEC_TYPE),
+        11 => Cell::Here(STATUS, columns::STATUS),
+        12 => Cell::Here(TIME, columns::TIME),
+        13 => Cell::Here(MULTI_LEG, columns::MULTI_LEG),
         _ => Cell::End,
     }
 }
@@ -139,39 +135,70 @@ fn correction_row(i: usize) -> Cell
     ensures { λ r. ⌜ r ≡ cellOf correctionRows i ⌝ }
 {
     match i {
-        0 => Cell::Here(TRANSACTIONS),
-        1 => Cell::Here(CORRECTION_TYPE),
-        2 => Cell::Here(EXEC_ID),
-        3 => Cell::Here(TRADE_ID),
-        4 => Cell::Here(CORRECTION_NUM),
-        5 => Cell::Here(ORDER_ID),
-        6 => Cell::Here(CLIENT_ORDER),
-        7 => Cell::Here(ORIGINAL_TIME),
-        8 => Cell::Here(TIME),
-        9 => Cell::Here(SECURITY),
-        10 => Cell::Here(SYMBOL),
-        11 => Cell::Here(SIDE),
-        12 => Cell::Here(LAST_PRICE),
-        13 => Cell::Here(LAST_SHARES),
+        0 => Cell::Here(TRANSACTIONS, columns::TRANSACTION),
+        1 => Cell::Here(CORRECTION_TYPE, columns::CORRECTION_TYPE),
+        2 => Cell::Here(EXEC_ID, columns::EXEC_ID),
+        3 => Cell::Here(TRADE_ID, columns::TRADE_ID),
+        4 => Cell::Here(CORRECTION_NUM, columns::CORRECTION_NUM),
+        5 => Cell::Here(ORDER_ID, columns::ORDER_ID),
+        6 => Cell::Here(CLIENT_ORDER, columns::CLIENT_ORDER),
+        7 => Cell::Here(ORIGINAL_TIME, columns::ORIGINAL_TIME),
+        8 => Cell::Here(TIME, columns::TIME),
+        9 => Cell::Here(SECURITY, columns::SECURITY),
+        10 => Cell::Here(SYMBOL, columns::SYMBOL),
+        11 => Cell::Here(SIDE, columns::SIDE),
+        12 => Cell::Here(LAST_PRICE, columns::LAST_PRICE),
+        13 => Cell::Here(LAST_SHARES, columns::LAST_SHARES),
         _ => Cell::End,
     }
 }
 
-// How many rows a type has of its own.
-fn own_rows(kind: Kind) -> usize
-    ensures { λ r. ⌜ r ≡ length (rowsOf kind) ⌝ }
+fn logon_row(i: usize) -> Cell
+    ensures { λ r. ⌜ r ≡ cellOf (rowsOf kind.Logon) i ⌝ }
 {
-    match kind {
-        Kind::Logon => LOGON.len(),
-        Kind::Heartbeat => HEARTBEAT.len(),
-        Kind::Test => TEST.len(),
-        Kind::Resend => RESEND.len(),
-        Kind::Reset => RESET.len(),
-        Kind::Logout => 0,
-        Kind::Report => REPORT_ROWS,
-        Kind::Correction => CORRECTION_ROWS,
-        Kind::Other => 0,
-        Kind::Unlisted => 0,
+    match i {
+        0 => Cell::Here(ENCRYPTION, columns::ENCRYPTION),
+        1 => Cell::Here(INTERVAL, columns::INTERVAL),
+        2 => Cell::Here(RESET_NUMBERS, columns::RESET_NUMBERS),
+        _ => Cell::End,
+    }
+}
+
+fn heartbeat_row(i: usize) -> Cell
+    ensures { λ r. ⌜ r ≡ cellOf (rowsOf kind.Heartbeat) i ⌝ }
+{
+    match i {
+        0 => Cell::Here(WORD_HEARD, columns::WORD),
+        _ => Cell::End,
+    }
+}
+
+fn test_row(i: usize) -> Cell
+    ensures { λ r. ⌜ r ≡ cellOf (rowsOf kind.Test) i ⌝ }
+{
+    match i {
+        0 => Cell::Here(WORD_ASKED, columns::WORD),
+        _ => Cell::End,
+    }
+}
+
+fn resend_row(i: usize) -> Cell
+    ensures { λ r. ⌜ r ≡ cellOf (rowsOf kind.Resend) i ⌝ }
+{
+    match i {
+        0 => Cell::Here(FROM, columns::FROM),
+        1 => Cell::Here(UP_TO, columns::UP_TO),
+        _ => Cell::End,
+    }
+}
+
+fn reset_row(i: usize) -> Cell
+    ensures { λ r. ⌜ r ≡ cellOf (rowsOf kind.Reset) i ⌝ }
+{
+    match i {
+        0 => Cell::Here(FILLING, columns::FILLING),
+        1 => Cell::Here(TO, columns::TO),
+        _ => Cell::End,
     }
 }
 
@@ -179,15 +206,12 @@ fn own_rows(kind: Kind) -> usize
 fn own_row(kind: Kind, i: usize) -> Cell
     ensures { λ r. ⌜ r ≡ cellOf (rowsOf kind) i ⌝ }
 {
-    if own_rows(kind) <= i {
-        return Cell::End;
-    }
     match kind {
-        Kind::Logon => Cell::Here(LOGON[i]),
-        Kind::Heartbeat => Cell::Here(HEARTBEAT[i]),
-        Kind::Test => Cell::Here(TEST[i]),
-        Kind::Resend => Cell::Here(RESEND[i]),
-        Kind::Reset => Cell::Here(RESET[i]),
+        Kind::Logon => logon_row(i),
+        Kind::Heartbeat => heartbeat_row(i),
+        Kind::Test => test_row(i),
+        Kind::Resend => resend_row(i),
+        Kind::Reset => reset_row(i),
         Kind::Logout => Cell::End,
         Kind::Report => report_row(i),
         Kind::Correction => correction_row(i),

@@ -16,8 +16,9 @@ use answer::NINE_DIGITS;
 use answer::Setup;
 use answer::reasons;
 use field::Index;
-use field::count_at;
+use field::count_in;
 use field::value_at;
+use field::value_in;
 use value::Check;
 use value::Number;
 use value::Price;
@@ -28,9 +29,10 @@ ghost use Prim.Native.Nat.{_≤_};
 ghost use Rattle.value.specs.Value.{badPrice};
 ghost use Rattle.value.specs.Readers.{checked, codeChecked};
 ghost use Rattle.answer.specs.Numbers.{nineDigits};
+ghost use Rattle.field.specs.Index.{columnOf};
 ghost use Rattle.field.specs.Look.{lookIn};
 ghost use Rattle.table.specs.declared.Form.the-variants as form;
-ghost use Rattle.table.specs.Rows.{codesOf, tableOf};
+ghost use Rattle.table.specs.Rows.{codesOf, tableOf, tagOf};
 ghost use Rattle.table.specs.Steps.{numberOf, isSecurity, inRange, valueCheck, tagFault, applies, askedBy, rowFault, walk, found};
 
 // The number of a tag.
@@ -38,7 +40,11 @@ pub fn number_at(body: &[u8], index: &Index, tag: u32) -> u32
     ensures { λ r. ⌜ r ≡ numberOf (lookIn (now (body .entry)) (now (index .entry))) tag ⌝ }
     ensures { λ r. ⌜ r ≤ nineDigits ⌝ }
 {
-    value::number_of(value_at(body, index, tag))
+    let v = value_at(body, index, tag);
+    if v.len() == 0 {
+        return 0;
+    }
+    value::number_of(v)
 }
 
 // Whether a number, or a text's length, is in range.
@@ -157,18 +163,20 @@ fn applies(place: Where, given: Given) -> bool
     }
 }
 
-// "each tag: missing 1, twice 5, bad form 6, out of range 5".
+// "each tag: missing 1, twice 5, bad form 6, out of range 5". The tag is given with its column.
 fn tag_fault(
     body: &[u8],
     index: &Index,
     given: Given,
     tag: u32,
+    column: usize,
     needed: bool,
     form: Form,
 ) -> Judgement
+    requires { ⌜ column ≡ columnOf tag ⌝ }
     ensures { λ r. ⌜ found r ≡ tagFault given (lookIn (now (body .entry)) (now (index .entry))) tag needed form ⌝ }
 {
-    let n = count_at(body, index, tag);
+    let n = count_in(index, column);
     if n == 0 {
         if needed {
             return faulty(reasons::MISSING, tag);
@@ -178,7 +186,7 @@ fn tag_fault(
     if n != 1 {
         return faulty(reasons::WRONG_VALUE, tag);
     }
-    match check_value(body, index, given, form, value_at(body, index, tag)) {
+    match check_value(body, index, given, form, value_in(body, index, column)) {
         Check::Good => Judgement::Fine,
         Check::BadForm(at) => Judgement::Faulty(Fault {
             reason: reasons::WRONG_FORM,
@@ -208,8 +216,9 @@ fn asked_by(row: Row) -> Asked
     }
 }
 
-// The fault of a row. One that does not apply is passed over.
-fn row_fault(body: &[u8], index: &Index, given: Given, row: Row) -> Judgement
+// The fault of a row, given with its tag's column. One that does not apply is passed over.
+fn row_fault(body: &[u8], index: &Index, given: Given, row: Row, column: usize) -> Judgement
+    requires { ⌜ column ≡ columnOf (tagOf row) ⌝ }
     ensures { λ r. ⌜ found r ≡ rowFault given (lookIn (now (body .entry)) (now (index .entry))) row ⌝ }
 {
     let asked = asked_by(row);
@@ -218,7 +227,7 @@ fn row_fault(body: &[u8], index: &Index, given: Given, row: Row) -> Judgement
         return Judgement::Fine;
     }
     let form = asked.form;
-    tag_fault(body, index, given, asked.tag, asked.needed, form)
+    tag_fault(body, index, given, asked.tag, column, asked.needed, form)
 }
 
 // "The table of its type, top down".
@@ -228,10 +237,10 @@ pub(crate) fn walk(setup: Setup, given: Given, kind: Kind, body: &[u8], index: &
     let mut i: usize = 0;
     loop {
         let cell = row_at(setup, kind, i);
-        let Cell::Here(row) = cell else {
+        let Cell::Here(row, column) = cell else {
             return Judgement::Fine;
         };
-        let here = row_fault(body, index, given, row);
+        let here = row_fault(body, index, given, row, column);
         if let Judgement::Faulty(fault) = here {
             return Judgement::Faulty(fault);
         }

@@ -20,7 +20,8 @@ use Rattle.octet.specs.Maybe.{isNone}
 use Rattle.octet.proofs.Cases.{not-true-false, of-cond, contrary, cond-true, and-both, and-make, or-cases}
 use Rattle.octet.proofs.Lists.{part-first, drop-step}
 use Rattle.text.specs.Decimal.{digits}
-use Rattle.value.specs.Value.{wellFormed, likeRun, likeFrom, timePattern, timeLong, badTime, isDay, isClock, numberOn, twoDigits, pairOn, timeFits, isTime, PlainDay, PlainClock}
+use Rattle.value.specs.Value.{wellFormed, likeRun, timePattern, timeLong, badTime, isDay, isClock, numberOn, timeFits, isTime}
+use Rattle.value.specs.Plain.{likeFrom, twoDigits, pairOn, PlainDay, PlainClock}
 use Rattle.value.specs.Readers.{checked, timeChecked}
 use Rattle.value.specs.declared.Check.{Check}
 use Rattle.value.specs.declared.Check.the-variants.{Good, BadForm, OutOfRange}

@@ -39,20 +39,20 @@ is-tagged-requires c κs = len-is _ _ (c .digits-of .ensures .0)
 tag-there : (c : tie.Then1) → tagged (restOf (c .before .before .before .before .before)) ≡ true
 tag-there c = sym (told (c .before)) ∙ c .if1 .taken
 
-sub-until : tie.Need-sub-until
+sub-until : tie.Need-sub-until-bar
 sub-until c =
     let t = c .before .before .before .before .before in
     omega (arith, tag-mark _ _ (read (c .before .before)) (tag-there c), until-most 1 (restOf t), ap length (whole t))
 
-behind-tag : (u : tie.After-until) → let d = u .before .before .before .before in
-    u .until .result ≡ untilByte 1 (drop (d .digits-of .result .len + 1) (restOf (d .before .before .before)))
+behind-tag : (u : tie.After-until-bar) → let d = u .before .before .before .before in
+    u .until-bar .result ≡ untilByte 1 (drop (d .digits-of .result .len + 1) (restOf (d .before .before .before)))
 behind-tag u =
     let d = u .before .before .before .before in
     let t = d .before .before .before in
-    rw (u .until .ensures, whole t, part-rest (restOf t) (d .digits-of .result .len + 1))
+    rw (u .until-bar .ensures, whole t, part-rest (restOf t) (d .digits-of .result .len + 1))
 
-mark-is : (u : tie.After-until) → let d = u .before .before .before .before in
-    untilByte 1 (restOf (d .before .before .before)) ≡ d .digits-of .result .len + 1 + u .until .result
+mark-is : (u : tie.After-until-bar) → let d = u .before .before .before .before in
+    untilByte 1 (restOf (d .before .before .before)) ≡ d .digits-of .result .len + 1 + u .until-bar .result
 mark-is u =
     let d = u .before .before .before .before in
     tag-mark _ _ (read d) (tag-there (u .before .before)) ∙ ap (λ (n : ℕ). d .digits-of .result .len + 1 + n) (sym (behind-tag u))
@@ -71,12 +71,12 @@ returns c =
 
 -- ---- none
 
-stray-is : (u : tie.After-until2) → let d = u .before .before .before .before in
-    untilByte 1 (restOf (d .before .before .before)) ≡ d .digits-of .result .len + u .until2 .result
+stray-is : (u : tie.After-until) → let d = u .before .before .before .before in
+    untilByte 1 (restOf (d .before .before .before)) ≡ d .digits-of .result .len + u .until .result
 stray-is u =
     let d = u .before .before .before .before in
     let t = d .before .before .before in
-    stray-mark _ _ (read d) ∙ rw (u .until2 .ensures, whole t, part-rest (restOf t) (d .digits-of .result .len))
+    stray-mark _ _ (read d) ∙ rw (u .until .ensures, whole t, part-rest (restOf t) (d .digits-of .result .len))
 
 add-n : tie.Need-add-n
 add-n c = let t = c .before .before .before .before .before .before .before in omega (arith, stray-is c, mark-in t)

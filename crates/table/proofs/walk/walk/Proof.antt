@@ -9,7 +9,7 @@ use Rattle.table.specs.declared.Cell.the-variants.{Here}
 use Rattle.field.specs.Look.{lookIn}
 use Rattle.table.specs.Rows.{tableOf, cellOf}
 use Rattle.table.specs.Steps.{walk, found}
-use Rattle.table.proofs.Walks.{few, here-inside, walk-here, walk-end}
+use Rattle.table.proofs.Walks.{few, here-inside, here-column, walk-here, walk-end}
 use Rattle.table.proofs.walk.walk.Statement.{statement}
 use Rattle.table.proofs.walk.walk.Tie as tie
 
@@ -29,14 +29,20 @@ returns c =
     let l = q .before in
     sym (l .loop .inv .1 ∙ walk-end (tableOf (l .before .before .args .setup) (l .before .before .args .kind)) (l .loop .i) _ _ (sym (q .row-at .ensures) ∙ c .enum-told .given .1))
 
+-- it stands beside its tag's column
+row-fault-requires : tie.Need-row-fault-requires Inv-loop μ-loop
+row-fault-requires c κs =
+    let l = c .before .before .before .before in
+    here-column (tableOf (l .before .before .args .setup) (l .before .before .args .kind)) (l .loop .i) (sym (c .before .before .before .row-at .ensures) ∙ c .before .cell .given .1)
+
 -- a row is there
 here : (q : tie.After-row-fault Inv-loop μ-loop) → let l = q .before .before .before .before .before in
-    cellOf (tableOf (l .before .before .args .setup) (l .before .before .args .kind)) (l .loop .i) ≡ Here (q .before .before .cell .given .0 .0)
+    cellOf (tableOf (l .before .before .args .setup) (l .before .before .args .kind)) (l .loop .i) ≡ Here (q .before .before .cell .given .0 .0) (q .before .before .cell .given .0 .1 .0)
 here q = sym (q .before .before .before .before .row-at .ensures) ∙ q .before .before .cell .given .1
 
 inside : (q : tie.After-row-fault Inv-loop μ-loop) → let l = q .before .before .before .before .before in
     l .loop .i < length (tableOf (l .before .before .args .setup) (l .before .before .args .kind))
-inside q = let l = q .before .before .before .before .before in here-inside (tableOf (l .before .before .args .setup) (l .before .before .args .kind)) (l .loop .i) _ (here q)
+inside q = let l = q .before .before .before .before .before in here-inside (tableOf (l .before .before .args .setup) (l .before .before .args .kind)) (l .loop .i) (here q)
 
 -- the walk is its fault, or else the walk of the rows after it
 stepped : (q : tie.After-row-fault Inv-loop μ-loop) → let l = q .before .before .before .before .before in let a = l .before .before .args in
@@ -45,7 +51,7 @@ stepped : (q : tie.After-row-fault Inv-loop μ-loop) → let l = q .before .befo
 stepped q =
     let l = q .before .before .before .before .before in
     let a = l .before .before .args in
-    l .loop .inv .1 ∙ walk-here (tableOf (a .setup) (a .kind)) (l .loop .i) _ _ _ (here q) ∙ rw (← q .row-fault .ensures)
+    l .loop .inv .1 ∙ walk-here (tableOf (a .setup) (a .kind)) (l .loop .i) _ _ (here q) ∙ rw (← q .row-fault .ensures)
 
 returns-2 : tie.Need-returns-2 Inv-loop μ-loop
 returns-2 c = let q = c .before .before .before in rw (stepped q, c .before .here .given .1)
@@ -72,7 +78,7 @@ walk-spec =
     (λ c. search needs)
     (λ c. search needs)
     returns
-    (λ c κs. search needs)
+    row-fault-requires
     (λ c. search needs)
     returns-2
     (λ c. search needs)
