@@ -295,15 +295,16 @@ struct Bench {
 
     vector<Work> messages() {
         const string fresh = report(FILLS, FILLS - 1, ORDERS - 1), known = report(FILLS, FILLS - 1, ORDERS - 2);
-        const string again = report(FILLS + 1, FILLS - 1, ORDERS - 1), beat = framed(head("0", FILLS + 1));
+        const string again = report(FILLS + 1, FILLS - 1, ORDERS - 1), oldest = report(FILLS + 1, 0, 0), beat = framed(head("0", FILLS + 1));
         const string test = framed(head("1", FILLS + 1) + "112=ARE-YOU-THERE-0513|"), wrong = report(FILLS, FILLS - 1, ORDERS - 1, "2");
         const string fields = long_report(4096, true), text = long_report(4096, false), bust = cancel(FILLS, ENTRIES - 1);
         return {
-            {"(a) report booked, 0 fills", booking("a", 0, fresh), parse(fresh, 17), 0.45},
+            {"(a) report booked, 0 fills", booking("a", 0, fresh), parse(fresh, 17), 0.27},
             {"(a) report booked, 128 fills", booking("a", 128, known), parse(known, 17), 0},
             {"(a) report booked, 511 fills, of a new order", booking("a", 511, fresh), parse(fresh, 17), 0.6},
             {"(a) report booked, 511 fills, of a known order", booking("a", 511, known), parse(known, 17), 0.6},
-            {"(b) report already booked, 512 fills", call("b", full, again, FILLS + 1, ALREADY, 0, 9), parse(again, 17), 0},
+            {"(b) report already booked, the newest of 512", call("b", full, again, FILLS + 1, ALREADY, 0, 9), parse(again, 17), 0},
+            {"(b) report already booked, the oldest of 512", call("b", full, oldest, FILLS + 1, ALREADY, 0, 9), parse(oldest, 17), 0},
             {"(c) Heartbeat", call("c", full, beat, FILLS + 1, HEARD, 0, 9), parse(beat, 35), 0.5},
             {"(d) Test Request, answered", call("d", full, test, FILLS + 1, ECHOED, 60, 9), parse(test, 112), 0},
             {"(e) report rejected by its last rule", call("e", day_of(511), wrong, FILLS, REJECTED, 60, 9), parse(wrong, 17), 0},

@@ -1,6 +1,7 @@
 -- The pass: what is noted so far and the pieces that are left make the whole index.
 use borrow.Author.Needs.{needs}
 use mathlib.Core.Path.{_≡_, refl, ap, sym, _∙_}
+use mathlib.Core.Logic.{⊎-elim}
 use mathlib.Core.List.{List}
 use Prim.Native.Nat.{_-_, _≤_}
 use native.Mathlib.Omega.{arith}
@@ -27,18 +28,29 @@ step c = let p = c .before .before in stepped (p .before .before .before .args .
 loop-holds : tie.Need-loop-holds Inv-loop μ-loop
 loop-holds c = (omega arith, refl, scan-at 0 (piecesOf (c .before .before .args .body .now)))
 
+-- a sound piece leaves the scan as it is, and so it is with the piece's fault on every way
+with-piece : (w : tie.At-match-came Inv-loop μ-loop) → w .match .scan ≡ andThen (w .before .before .before .before .loop .scan) (w .before .piece-fault .result)
+with-piece w =
+    let scan = w .before .before .before .before .loop .scan in
+    ⊎-elim
+    (λ x. x .2 ∙ sym (and-then-sound scan) ∙ ap (andThen scan) (sym (x .1 .given .1)))
+    (⊎-elim
+    (λ x. x .3 ∙ x .2 .ensures ∙ ap (andThen scan) (sym (x .1 .given .1)))
+    (λ x. x .4 ∙ x .3 .ensures ∙ ap (andThen scan) (sym (x .1 .given .1))))
+    (w .match .came)
+
 loop-less : tie.Need-loop-less Inv-loop μ-loop
 loop-less c = let t = step (c .before .before .before .before) in omega (arith, t .on, t .inside)
 
 loop-again : tie.Need-loop-again Inv-loop μ-loop
 loop-again c =
-    let a = c .before .before in
-    let f = a .before in
+    let w = c .before .before in
+    let f = w .before in
     let t = step (f .before) in
     let p = f .before .before .before in (
       t .inside,
       p .loop .inv .1 ∙ pass-on _ _ _ _ _ (t .cuts) (c .note .ensures),
-      p .loop .inv .2 ∙ rw (t .cuts, ← f .piece-fault .ensures, ← and-then-assoc _ _ _, ← a .and-then .ensures),
+      p .loop .inv .2 ∙ rw (t .cuts, ← f .piece-fault .ensures, ← and-then-assoc _ _ _, ← with-piece w),
     )
 
 returns : tie.Need-returns Inv-loop μ-loop
@@ -59,6 +71,10 @@ index-into-spec =
     loop-holds
     (λ c κs. search needs)
     (λ c κs. search needs)
+    (λ c. search needs)
+    (λ c. search needs)
+    (λ c κs. search needs)
+    (λ c. search needs)
     (λ c κs. search needs)
     (λ c κs. search needs)
     loop-less
