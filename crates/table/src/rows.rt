@@ -153,6 +153,7 @@ fn correction_row(i: usize) -> Cell
     }
 }
 
+// The same of the session's types that have rows of their own.
 fn logon_row(i: usize) -> Cell
     ensures { λ r. ⌜ r ≡ cellOf (rowsOf kind.Logon) i ⌝ }
 {
