@@ -38,7 +38,7 @@ use Rattle.answer.specs.declared.Fault.{Fault}
 use Rattle.answer.specs.declared.Phase.{Phase}
 use Rattle.answer.specs.declared.Kind.{Kind}
 use Rattle.answer.specs.declared.Kind.the-variants as kind
-use Rattle.table.specs.Rows.{tableOf, kindIn}
+use Rattle.table.specs.Rows.{tableOf, kindIn, tagOf}
 use Rattle.table.specs.Steps.{givenOf, checkFault, valueCheck, tagFault, applies, rowFault, walk, scanFault, kindFault, firstFault, faultIn}
 use Rattle.table.specs.declared.Row.{Row}
 use Rattle.table.specs.declared.Row.the-variants as row
@@ -247,13 +247,9 @@ scanned-small scan.Malformed h = (omega arith, omega arith)
 scanned-small (scan.Empty tag) h = (h, omega arith)
 
 -- the tags of the table
-abbrev tagIn : Row → ℕ
-tagIn (row.Needs tag form place) = tag
-tagIn (row.May tag form place) = tag
-
 abbrev smallRows : List Row → Bool
 smallRows [] = true
-smallRows (r ∷ rows) = ltb (tagIn r) 10000 && smallRows rows
+smallRows (r ∷ rows) = ltb (tagOf r) 10000 && smallRows rows
 
 -- by its type: the fault of step 6, and the tags of its table
 kind-small : (setup : Setup) (phase : Phase) (k : Kind) → SmallIf (kindFault phase k) × (smallRows (tableOf setup k) ≡ true)
@@ -279,7 +275,7 @@ tag-small given look tag needed form h =
     of-cond SmallIf (eqb (look .count tag) 0) (λ _. of-cond SmallIf needed (λ _. (omega arith, omega arith)) (λ _. tt))
     (λ _. of-cond SmallIf (eqb (look .count tag) 1) (λ _. check-small tag (valueCheck given look form (look .text tag)) h) (λ _. (omega arith, omega arith)))
 
-row-small : (given : Given) (look : Look) (r : Row) → tagIn r < 10000 → SmallIf (rowFault given look r)
+row-small : (given : Given) (look : Look) (r : Row) → tagOf r < 10000 → SmallIf (rowFault given look r)
 row-small given look (row.Needs tag form place) h =
     of-cond SmallIf (applies given place) (λ _. tag-small given look tag true form h) (λ _. tt)
 row-small given look (row.May tag form place) h =
@@ -289,8 +285,8 @@ walk-small : (given : Given) (look : Look) (rows : List Row) → smallRows rows 
 unfolding walk
 walk-small given look [] h = tt
 walk-small given look (r ∷ rows) h =
-    let p = and-both (ltb (tagIn r) 10000) (smallRows rows) h in
-    or-small (rowFault given look r) (walk given look rows) (row-small given look r (ltb-true (tagIn r) 10000 (p .0))) (walk-small given look rows (p .1))
+    let p = and-both (ltb (tagOf r) 10000) (smallRows rows) h in
+    or-small (rowFault given look r) (walk given look rows) (row-small given look r (ltb-true (tagOf r) 10000 (p .0))) (walk-small given look rows (p .1))
 
 pub fault-small : (setup : Setup) (phase : Phase) (o : ℕ) (ps : Pieces) → SmallIf (faultIn setup phase o ps)
 unfolding faultIn firstFault
