@@ -1,4 +1,5 @@
 -- What is written is read back: the pieces of fields that are laid out, their tags and their values.
+--     whole, number-whole     fields that may be laid out
 --     pieces-layout     the pieces of fields laid out are theirs, in order
 --     piece-tagged, piece-tag, piece-value, piece-carries     such a piece has its field's tag and value
 --     values-layout     the values of a tag are those of the fields with it
@@ -13,12 +14,12 @@ use lib.ListN.{length, getD, take, drop, take-append-drop}
 use lib.Seq.{take-append-seam, length-take-le, getD-take}
 use lib.Dec.{eqb}
 use borrow.Author.Tests.{eq-eqb, ne-eqb, lt-ltb, eqb-true, eqb-false, not-true}
-use Rattle.octet.specs.Bytes.{bytesOf, between, same, allIn}
+use Rattle.octet.specs.Bytes.{bytesOf, between, same, allIn, untilByte}
 use Rattle.octet.specs.Places.{valueOf}
 use Rattle.octet.proofs.Cases.{and-both, bool-ext}
 use Rattle.octet.proofs.Lists.{is-between, between-low, between-high, run-in, drop-step, same-true, same-of}
 use Rattle.text.specs.Decimal.{digits, digitRun, decimal}
-use Rattle.text.proofs.Decimals.{decimal-small, decimal-large}
+use Rattle.text.proofs.Decimals.{decimal-some, decimal-unmarked, decimal-small, decimal-large}
 use Rattle.text.specs.Fields.{Field, _is_, fieldBytes, layout}
 use Rattle.text.proofs.Layouts.{field-text, piece-length, tag-run, tag-some, tag-few, tag-lead, tag-back, tag-equals, tag-value, piece-unmarked}
 use Rattle.field.specs.Pieces.{Pieces, piecesOf, tagged, tagOf, valueAfter, valued, carries, valuesOf, pieceScan, scanOf}
@@ -41,6 +42,13 @@ plain-of e = each-map (λ f w. w .plain) e
 
 pub unmarked-of : {fs : List Field} → Each Plain fs → Each Unmarked fs
 unmarked-of e = each-map (λ f p. p .unmarked) e
+
+-- a value of at least one byte that has no `|`, and a number, under a tag of 1 to 5 digits
+pub whole : (tag : ℕ) (v : List ℕ) → 1 ≤ tag → tag ≤ 99999 → (1 ≤ length v) × (untilByte 1 v ≡ length v) → Whole (tag is v)
+whole tag v l h c = record { plain = record { low = l; high = h; unmarked = c .1 }; some = c .0 }
+
+pub number-whole : (tag n : ℕ) → 1 ≤ tag → tag ≤ 99999 → Whole (tag is decimal n)
+number-whole tag n l h = whole tag (decimal n) l h (decimal-some n, decimal-unmarked n)
 
 -- ---- one piece
 module _ (tag : ℕ) (v : List ℕ) (low : 1 ≤ tag) (high : tag ≤ 99999) where

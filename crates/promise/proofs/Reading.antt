@@ -20,8 +20,9 @@ use Rattle.octet.specs.Splice.{splice}
 use Rattle.octet.proofs.Cases.{of-cond, bool-case, contrary, and-both}
 use Rattle.octet.proofs.Lists.{splice-take, until-in, between-low, between-high, is-between}
 use Rattle.text.specs.Decimal.{digitRun, digits}
-use Rattle.value.specs.Value.{likeByte, likeRun, timePattern, timeLong, badTime, isTime}
+use Rattle.value.specs.Value.{isTime}
 use Rattle.value.proofs.Numbers.{front-below}
+use Rattle.value.proofs.Times.{time-bytes}
 use Rattle.frame.specs.Finding.{opening, foundIn, bodyIn}
 use Rattle.frame.specs.declared.Found.the-variants as found
 use Rattle.frame.proofs.Bodies.{body-parts}
@@ -104,39 +105,12 @@ agreed setup g =
 
 -- ---- the given time
 
-like-byte : (t b : ℕ) → likeByte t b ≡ true → between 45 58 t ≡ true → between 45 58 b ≡ true
-like-byte t b h k = go (between 48 57 t) h
-  where
-    go : (x : Bool) → cond x (between 48 57 b) (eqb t b) ≡ true → between 45 58 b ≡ true
-    go true e = let l = between-low 48 57 b e in let m = between-high 48 57 b e in is-between 45 58 b (omega arith) (omega arith)
-    go false e = subst (λ (y : ℕ). between 45 58 y ≡ true) (eqb-true t b e) k
-
-like-all : (p v : List ℕ) → likeRun p v ≡ length v → allIn 45 58 p ≡ true → allIn 45 58 v ≡ true
-like-all [] [] h e = refl
-like-all [] (b ∷ v) h e = absurd (omega arith)
-like-all (t ∷ p) [] h e = refl
-like-all (t ∷ p) (b ∷ v) h e =
-    let d = and-both (between 45 58 t) (allIn 45 58 p) e in
-    let q : (likeByte t b ≡ true) × (likeRun p v ≡ length v) =
-    of-cond (λ (n : ℕ). n ≡ suc (length v) → (likeByte t b ≡ true) × (likeRun p v ≡ length v)) (likeByte t b)
-    (λ x y. (x, omega arith)) (λ x y. absurd (omega arith)) h in
-    rw (like-byte t b (q .0) (d .0)) (like-all p v (q .1) (d .1))
-
-time-formed : (v : List ℕ) → isNone (badTime v) ≡ true → likeRun timePattern v ≡ length v
-unfolding badTime
-time-formed v h =
-    ⊎-elim
-    (λ x. eqb-true (likeRun timePattern v) (length v) (and-both (eqb (likeRun timePattern v) (length v)) (timeLong (length v)) x .0))
-    (λ x. contrary h (rw x))
-    (bool-case (eqb (likeRun timePattern v) (length v) && timeLong (length v)))
-
 pub time-clear : (time : List ℕ) → badGiven time ≡ false → Clear time × (length time ≡ 21)
 unfolding badGiven
 time-clear time h =
     let p = and-both (eqb (length time) 21) (isTime time) (not-false (eqb (length time) 21 && isTime time) h) in
-    let q = and-both (isNone (badTime time)) _ (p .1) in
     let l : length time ≡ 21 = eqb-true (length time) 21 (p .0) in
-    ((omega arith, until-in 1 45 58 time (like-all timePattern time (time-formed time (q .0)) refl) refl), l)
+    ((omega arith, until-in 1 45 58 time (time-bytes time (p .1)) refl), l)
 
 -- ---- the values of a message have no `|`
 

@@ -39,7 +39,7 @@ use Rattle.book.specs.declared.Placed.the-variants as placed
 use Rattle.note.specs.Notes.{Note, Raises, Books, Acks, Clears, Whole}
 use Rattle.note.proofs.Reading.{Fits, note-length, reads-back, reads-part}
 use Rattle.note.proofs.Keeping.{Sound}
-use Rattle.report.specs.Report.{Report, rule14, rule151, rule150, rule39, unlessKept, ruleFault, isAside, afterRules, reportedOf, reportIn, reportedIn, slotIn}
+use Rattle.report.specs.Report.{Report, isCrossed, cumOk, leavesOk, tied, statusOk, unlessKept, ruleFault, isAside, afterRules, reportedOf, reportIn, reportedIn, slotIn}
 use Rattle.report.specs.Correction.{entryIn}
 use Rattle.report.specs.declared.Reported.{Reported}
 use Rattle.report.specs.declared.Reported.the-variants as reported
@@ -189,10 +189,11 @@ rule-small : (r : Report) → SmallIf (ruleFault r)
 unfolding ruleFault
 rule-small r =
     let n = r .sums in
-    or-small (unlessKept 14 (rule14 n)) _ (kept-small 14 (rule14 n) (omega arith))
-    (or-small (unlessKept 151 (rule151 n)) _ (kept-small 151 (rule151 n) (omega arith))
-    (or-small (unlessKept 150 (rule150 n (r .execType))) _ (kept-small 150 (rule150 n (r .execType)) (omega arith))
-    (kept-small 39 (rule39 (r .execType) (r .status)) (omega arith))))
+    let x = isCrossed (r .execType) (r .status) in
+    or-small (unlessKept 14 (cumOk n)) _ (kept-small 14 (cumOk n) (omega arith))
+    (or-small (unlessKept 151 (leavesOk x n)) _ (kept-small 151 (leavesOk x n) (omega arith))
+    (or-small (unlessKept 150 (tied x n (r .execType))) _ (kept-small 150 (tied x n (r .execType)) (omega arith))
+    (kept-small 39 (statusOk x (r .execType) (r .status)) (omega arith))))
 
 abbrev SmallReported : Reported → Type 0
 SmallReported (reported.Faulty f) = SmallFault f

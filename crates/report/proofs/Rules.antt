@@ -20,7 +20,7 @@ use Rattle.fill.specs.Slot.{Slot, fillOf, bodyOf, slotOf}
 use Rattle.fill.specs.Entry.{entryOf, entryBody, entrySlot}
 use Rattle.report.specs.declared.Sums.{Sums}
 use Rattle.report.specs.declared.Reported.{Reported}
-use Rattle.report.specs.Report.{reportWith, rule14, rule151, rule150, rule39, unlessKept, ruleFault, reportedOf, slotFor, slotOn, slotAfter}
+use Rattle.report.specs.Report.{reportWith, isCrossed, cumOk, leavesOk, tied, statusOk, unlessKept, ruleFault, reportedOf, slotFor, slotOn, slotAfter}
 use Rattle.report.specs.Correction.{entryFor}
 
 -- one thing is so exactly when another is
@@ -35,10 +35,11 @@ exactly-no false true e = refl
 exactly-no false false e = refl
 
 -- an early return names the rules up to its own
-pub rules-told : (sums : Sums) (kind status : List ℕ) {a b d e : Bool} → rule14 sums ≡ a → rule151 sums ≡ b → rule150 sums kind ≡ d → rule39 kind status ≡ e
+pub rules-told : (sums : Sums) (kind status : List ℕ) {x a b d e : Bool} → isCrossed kind status ≡ x → cumOk sums ≡ a → leavesOk x sums ≡ b → tied x sums kind ≡ d
+    → statusOk x kind status ≡ e
     → orElse (unlessKept 14 a) (orElse (unlessKept 151 b) (orElse (unlessKept 150 d) (unlessKept 39 e))) ≡ ruleFault (reportWith sums kind status)
 unfolding ruleFault
-rules-told sums kind status ea eb ed ee = rw (ea, eb, ed, ee)
+rules-told sums kind status ex ea eb ed ee = rw (ex, ea, eb, ed, ee)
 
 -- a number in one byte
 pub one-place : (n : ℕ) → high 1 (n % 256) ≡ high 1 n

@@ -2,7 +2,7 @@
 use Prim.Native.Nat.{ℕ, _-_}
 use mathlib.Core.List.{List}
 use mathlib.Core.Option.{Option, none, some}
-use mathlib.Core.Bool.{Bool, cond, not, Bool·beq}
+use mathlib.Core.Bool.{Bool, cond, _&&_, _||_, not, Bool·beq}
 use lib.Dec.{eqb}
 use Rattle.octet.specs.Bytes.{between, same, is}
 use Rattle.octet.specs.Maybe.{orElse}
@@ -18,7 +18,7 @@ use Rattle.report.specs.declared.Reported.the-variants.{Faulty, Aside}
 use Rattle.report.specs.declared.Reported.the-variants as reported
 use Rattle.report.specs.declared.Sums.{Sums}
 
--- ---- "Then, each Reject 5 with the tag: .."
+-- ---- "Then, each Reject 5 with the tag: .."; and request C-12, of a fill that crossed a cancel
 
 -- the values that the rules need: 38, 32, 14 and 151; 150 and 39
 pub record Report : Type 0 where
@@ -29,31 +29,38 @@ pub record Report : Type 0 where
 abbrev pub reportWith : Sums → List ℕ → List ℕ → Report
 reportWith sums execType status = record { sums = sums; execType = execType; status = status }
 
+-- "39=4 is taken with 150=1": the fill crossed a cancel of its order
+abbrev pub isCrossed : List ℕ → List ℕ → Bool
+isCrossed execType status = is "4" status && is "1" execType
+
 -- "14 between 32's and 38's"
-abbrev pub rule14 : Sums → Bool
-rule14 n = between (n .shares) (n .quantity) (n .cum)
+abbrev pub cumOk : Sums → Bool
+cumOk n = between (n .shares) (n .quantity) (n .cum)
 
--- "151 = 38 − 14"
-abbrev pub rule151 : Sums → Bool
-rule151 n = eqb (n .leaves) (n .quantity - n .cum)
+-- "151 = 38 − 14"; where it crossed, "then 151 must be 0", "in the place of the old 151 rule"
+abbrev pub leavesOk : Bool → Sums → Bool
+leavesOk crossed n = eqb (n .leaves) (cond crossed 0 (n .quantity - n .cum))
 
--- "150 is 2 exactly when 151 is 0"
-abbrev pub rule150 : Sums → List ℕ → Bool
-rule150 n execType = Bool·beq (is "2" execType) (eqb (n .leaves) 0)
+-- "150 is 2 exactly when 151 is 0"; where it crossed, "the rule tying 150 to 151 is not applied"
+abbrev pub tied : Bool → Sums → List ℕ → Bool
+tied crossed n execType = crossed || Bool·beq (is "2" execType) (eqb (n .leaves) 0)
 
--- "39 equals 150"
-abbrev pub rule39 : List ℕ → List ℕ → Bool
-rule39 execType status = same status execType
+-- "39 equals 150"; where it crossed, "39=4 is taken"
+abbrev pub statusOk : Bool → List ℕ → List ℕ → Bool
+statusOk crossed execType status = crossed || same status execType
 
 abbrev pub unlessKept : ℕ → Bool → Option Fault
 unlessKept tag kept = cond kept none (some (fault wrongValue tag))
 
 -- the first that is not kept, in this order
+abbrev pub faultBy : Bool → Report → Option Fault
+faultBy crossed r =
+    orElse (unlessKept 14 (cumOk (r .sums)))
+    (orElse (unlessKept 151 (leavesOk crossed (r .sums)))
+    (orElse (unlessKept 150 (tied crossed (r .sums) (r .execType))) (unlessKept 39 (statusOk crossed (r .execType) (r .status)))))
+
 unfoldable pub ruleFault : Report → Option Fault
-ruleFault r =
-    orElse (unlessKept 14 (rule14 (r .sums)))
-    (orElse (unlessKept 151 (rule151 (r .sums)))
-    (orElse (unlessKept 150 (rule150 (r .sums) (r .execType))) (unlessKept 39 (rule39 (r .execType) (r .status)))))
+ruleFault r = faultBy (isCrossed (r .execType) (r .status)) r
 
 -- ---- by a look at the body
 

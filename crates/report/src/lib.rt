@@ -15,7 +15,19 @@ ghost use Rattle.value.specs.Value.{priceIn};
 ghost use Rattle.answer.specs.Numbers.{fault, wrongValue};
 ghost use Rattle.field.specs.Look.{lookIn};
 ghost use Rattle.table.specs.Steps.{numberOf, found};
-ghost use Rattle.report.specs.Report.{sumsOf, reportWith, rule14, rule151, rule150, rule39, ruleFault, reportedOf, slotFor, slotAfter};
+ghost use Rattle.report.specs.Report.{
+  sumsOf,
+  reportWith,
+  isCrossed,
+  cumOk,
+  leavesOk,
+  tied,
+  statusOk,
+  ruleFault,
+  reportedOf,
+  slotFor,
+  slotAfter,
+};
 ghost use Rattle.report.specs.Correction.{entryFor};
 
 // What a report says: it breaks a rule, it is set aside, or it tells of a fill.
@@ -44,9 +56,19 @@ fn sums_at(body: &[u8], index: &Index) -> Sums
     }
 }
 
+// "39=4 is taken with 150=1": the fill crossed a cancel of its order.
+fn has_crossed<'a>(kind: &'a [u8], status: &'a [u8]) -> bool
+    ensures { λ r. ⌜ r ≡ isCrossed (now (kind .entry)) (now (status .entry)) ⌝ }
+{
+    if !octet::same(b"4", status) {
+        return false;
+    }
+    octet::same(b"1", kind)
+}
+
 // "14 between 32's and 38's".
-fn keeps_14(sums: Sums) -> bool
-    ensures { λ r. ⌜ r ≡ rule14 sums ⌝ }
+fn cum_ok(sums: Sums) -> bool
+    ensures { λ r. ⌜ r ≡ cumOk sums ⌝ }
 {
     if sums.cum < sums.shares {
         return false;
@@ -54,32 +76,41 @@ fn keeps_14(sums: Sums) -> bool
     sums.cum <= sums.quantity
 }
 
-// "151 = 38 − 14", which is 0 where 14 is above 38.
-fn keeps_151(sums: Sums) -> bool
-    ensures { λ r. ⌜ r ≡ rule151 sums ⌝ }
+// "151 = 38 − 14", which is 0 where 14 is above 38; where it crossed, "then 151 must be 0".
+fn leaves_ok(crossed: bool, sums: Sums) -> bool
+    ensures { λ r. ⌜ r ≡ leavesOk crossed sums ⌝ }
 {
     let quantity = sums.quantity;
     let cum = sums.cum;
+    if crossed {
+        return sums.leaves == 0;
+    }
     if quantity < cum {
         return sums.leaves == 0;
     }
     sums.leaves == quantity - cum
 }
 
-// "150 is 2 exactly when 151 is 0".
-fn keeps_150(sums: Sums, kind: &[u8]) -> bool
-    ensures { λ r. ⌜ r ≡ rule150 sums (now (kind .entry)) ⌝ }
+// "150 is 2 exactly when 151 is 0"; where it crossed, "the rule .. is not applied".
+fn is_tied(crossed: bool, sums: Sums, kind: &[u8]) -> bool
+    ensures { λ r. ⌜ r ≡ tied crossed sums (now (kind .entry)) ⌝ }
 {
+    if crossed {
+        return true;
+    }
     if octet::same(b"2", kind) {
         return sums.leaves == 0;
     }
     sums.leaves != 0
 }
 
-// "39 equals 150".
-fn keeps_39<'a>(kind: &'a [u8], status: &'a [u8]) -> bool
-    ensures { λ r. ⌜ r ≡ rule39 (now (kind .entry)) (now (status .entry)) ⌝ }
+// "39 equals 150"; where it crossed, "39=4 is taken".
+fn status_ok<'a>(crossed: bool, kind: &'a [u8], status: &'a [u8]) -> bool
+    ensures { λ r. ⌜ r ≡ statusOk crossed (now (kind .entry)) (now (status .entry)) ⌝ }
 {
+    if crossed {
+        return true;
+    }
     octet::same(status, kind)
 }
 
@@ -94,16 +125,17 @@ fn broken(tag: u32) -> Judgement
 fn rule_fault<'a>(sums: Sums, kind: &'a [u8], status: &'a [u8]) -> Judgement
     ensures { λ r. ⌜ found r ≡ ruleFault (reportWith sums (now (kind .entry)) (now (status .entry))) ⌝ }
 {
-    if !keeps_14(sums) {
+    if !cum_ok(sums) {
         return broken(tags::CUM_QTY);
     }
-    if !keeps_151(sums) {
+    let crossed = has_crossed(kind, status);
+    if !leaves_ok(crossed, sums) {
         return broken(tags::LEAVES_QTY);
     }
-    if !keeps_150(sums, kind) {
+    if !is_tied(crossed, sums, kind) {
         return broken(tags::EXEC_TYPE);
     }
-    if !keeps_39(kind, status) {
+    if !status_ok(crossed, kind, status) {
         return broken(tags::STATUS);
     }
     Judgement::Fine

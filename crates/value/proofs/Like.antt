@@ -1,17 +1,20 @@
 -- How far a value is like a pattern: a walk over both, and a value that is like it as far as it goes.
 --     like-go, like-stop, like-past, like-done     the walk
 --     like-digits     where digits stand in the pattern, digits stand in such a value
+--     like-all     where the pattern has digits and marks alone, so has such a value
 --     like-append     such a value, and what follows it
-use mathlib.Core.Path.{_≡_, refl, sym, ap, ap₂, _∙_}
+use mathlib.Core.Path.{_≡_, refl, sym, ap, ap₂, _∙_, subst}
 use mathlib.Core.List.{List, [], _∷_, _++_}
-use mathlib.Core.Bool.{true, false}
+use mathlib.Core.Bool.{Bool, true, false, cond}
 use Prim.Native.Nat.{ℕ, zero, suc, _+_, _≤_, _<_}
 use native.Mathlib.Omega.{arith}
 use lib.ListN.{length, getD, take, drop}
 use native.Mathlib.Nat.{zero-add}
+use lib.Dec.{eqb}
+use borrow.Author.Tests.{eqb-true}
 use Rattle.octet.specs.Bytes.{between, allIn, part}
 use Rattle.octet.proofs.Cases.{of-cond, cond-true, cond-false, and-both, and-make}
-use Rattle.octet.proofs.Lists.{drop-step, drop-done}
+use Rattle.octet.proofs.Lists.{drop-step, drop-done, between-low, between-high, is-between}
 use Rattle.value.specs.Value.{likeByte, likeRun}
 
 like-none : (p : List ℕ) → likeRun p [] ≡ 0
@@ -56,6 +59,23 @@ like-front (suc n) (t ∷ p) (b ∷ v) h e =
 
 pub like-digits : (at n : ℕ) (p v : List ℕ) → likeRun p v ≡ length v → allIn 48 57 (part at n p) ≡ true → allIn 48 57 (part at n v) ≡ true
 like-digits at n p v h e = like-front n (drop at p) (drop at v) (like-drop at p v h) e
+
+-- a pattern of digits and marks from `-` to `:` is that of such bytes alone
+like-byte : (t b : ℕ) → likeByte t b ≡ true → between 45 58 t ≡ true → between 45 58 b ≡ true
+like-byte t b h k = go (between 48 57 t) h
+  where
+    go : (x : Bool) → cond x (between 48 57 b) (eqb t b) ≡ true → between 45 58 b ≡ true
+    go true e = let l = between-low 48 57 b e in let m = between-high 48 57 b e in is-between 45 58 b (omega arith) (omega arith)
+    go false e = subst (λ (y : ℕ). between 45 58 y ≡ true) (eqb-true t b e) k
+
+pub like-all : (p v : List ℕ) → likeRun p v ≡ length v → allIn 45 58 p ≡ true → allIn 45 58 v ≡ true
+like-all [] [] h e = refl
+like-all [] (b ∷ v) h e = absurd (omega arith)
+like-all (t ∷ p) [] h e = refl
+like-all (t ∷ p) (b ∷ v) h e =
+    let q = like-head t b p v h in
+    let d = and-both (between 45 58 t) (allIn 45 58 p) e in
+    and-make (between 45 58 b) (allIn 45 58 v) (like-byte t b (q .0) (d .0)) (like-all p v (q .1) (d .1))
 
 pub like-append : (p v w : List ℕ) → likeRun p v ≡ length v → likeRun p (v ++ w) ≡ length v + likeRun (drop (length v) p) w
 like-append p [] w h = sym (zero-add (likeRun p w))

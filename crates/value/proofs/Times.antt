@@ -1,6 +1,6 @@
 -- UTC times: what reading makes of form and range, what it means that a time was read, and a time that gets .000.
 --     time-good, time-bad, time-out     what each answer means
---     time-is     what it means to be a time
+--     time-is, time-bytes     what it means to be a time, and the bytes of one
 --     time-read     a time is read
 --     time-yes, time-form, time-range     each answer, as a test
 --     day-plain, clock-plain, time-plain     a time with .mmm, known by the bytes at its places
@@ -15,7 +15,7 @@ use native.Mathlib.Omega.{arith}
 use lib.ListN.{length, length-append, getD}
 use lib.Dec.{eqb}
 use borrow.Author.Tests.{eqb-true, eq-eqb}
-use Rattle.octet.specs.Bytes.{bytesOf, between, part}
+use Rattle.octet.specs.Bytes.{bytesOf, between, part, allIn}
 use Rattle.octet.specs.Maybe.{isNone}
 use Rattle.octet.proofs.Cases.{not-true-false, of-cond, contrary, cond-true, and-both, and-make, or-cases}
 use Rattle.octet.proofs.Lists.{part-first, drop-step}
@@ -27,7 +27,7 @@ use Rattle.value.specs.declared.Check.{Check}
 use Rattle.value.specs.declared.Check.the-variants.{Good, BadForm, OutOfRange}
 use Rattle.value.proofs.Forms.{form-short, form-part, form-well, form-good, checked-good, checked-bad, checked-out}
 use Rattle.value.proofs.Days.{day-below, clock-below}
-use Rattle.value.proofs.Like.{like-go, like-done, like-append}
+use Rattle.value.proofs.Like.{like-go, like-done, like-all, like-append}
 
 -- ---- form, and then range
 module _ (v : List ℕ) (good : ℕ) (e : good ≡ likeRun timePattern v) where
@@ -161,6 +161,11 @@ time-is v e =
     let p = and-both (isNone (badTime v)) (timeFits v) e in
     let f = none-is (badTime v) (p .0) in
     record { formed = f; fits = p .1; time = e; lengths = time-lengths v f }
+
+-- it has digits and marks alone
+pub time-bytes : (v : List ℕ) → isTime v ≡ true → allIn 45 58 v ≡ true
+unfolding badTime
+time-bytes v e = like-all timePattern v (form-good v (likeRun timePattern v) (timeLong (length v)) (time-is v e .formed) .0) refl
 
 pub time-read : (v : List ℕ) → isTime v ≡ true → timeChecked v ≡ Good
 time-read v e = let t = time-is v e in time-ranged v (t .formed) ∙ cond-true (timeFits v) Good OutOfRange (t .fits)

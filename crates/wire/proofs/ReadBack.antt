@@ -16,12 +16,11 @@ use Rattle.octet.specs.Bytes.{bytesOf}
 use Rattle.octet.specs.Maybe.{first, unless}
 use Rattle.text.specs.Decimal.{decimal}
 use Rattle.text.specs.Fields.{Field, _is_, said, layout}
-use Rattle.text.proofs.Decimals.{decimal-some, decimal-unmarked}
 use Rattle.frame.specs.Finding.{opening, foundIn}
 use Rattle.frame.specs.declared.Found.the-variants.{Framed}
 use Rattle.field.specs.Pieces.{Pieces, piecesOf, firstOf, textAt}
 use Rattle.field.specs.Written.{Each, none, also, Whole, valuesWith}
-use Rattle.field.proofs.Written.{each-append, plain-of, values-layout, scan-layout}
+use Rattle.field.proofs.Written.{each-append, plain-of, whole, number-whole, values-layout, scan-layout}
 use Rattle.value.specs.Readers.{numberRead}
 use Rattle.value.proofs.Back.{number-back}
 use Rattle.answer.specs.declared.Setup.{Setup}
@@ -34,12 +33,6 @@ use Rattle.wire.proofs.Bounds.{body-short}
 use Rattle.wire.proofs.Framing.{framed-found, framed-body}
 
 -- ---- each field is whole
-whole : (tag : ℕ) (v : List ℕ) → 1 ≤ tag → tag ≤ 99999 → Clear v → Whole (tag is v)
-whole tag v l h c = record { plain = record { low = l; high = h; unmarked = c .1 }; some = c .0 }
-
-number-whole : (tag n : ℕ) → 1 ≤ tag → tag ≤ 99999 → Whole (tag is decimal n)
-number-whole tag n l h = whole tag (decimal n) l h (decimal-some n, decimal-unmarked n)
-
 said-whole : (b : Bool) (f : Field) → Whole f → Each Whole (said b (f ∷ []))
 said-whole true f w = also w none
 said-whole false f w = none
