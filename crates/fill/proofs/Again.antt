@@ -1,54 +1,24 @@
 -- A lawful slot of a fill is made of what it tells: nothing of its bytes is left open.
 --     told-sound     what it tells is what a report can say of a fill
 --     slot-again     and the slot of that is the slot itself
-use mathlib.Core.Path.{_≡_, refl, sym, ap, ap₂, _∙_}
+use mathlib.Core.Path.{_≡_, sym, ap, _∙_}
 use mathlib.Core.List.{List, _∷_}
 use mathlib.Core.Bool.{true, _&&_}
 use Prim.Native.Nat.{ℕ, _+_, _-_, _≤_, _<_}
 use native.Mathlib.Omega.{arith}
-use lib.ListN.{length, getD, take, drop, length-drop}
-use lib.Dec.{leb}
-use borrow.Author.Tests.{leb-true, eqb-true, eq-eqb}
-use Rattle.octet.specs.Bytes.{between, allIn}
+use lib.ListN.{length, drop}
+use borrow.Author.Tests.{leb-true, eqb-true}
+use Rattle.octet.specs.Bytes.{allIn, part}
 use Rattle.octet.specs.Padded.{padded, textOf}
-use Rattle.octet.proofs.Cases.{and-left, and-right}
+use Rattle.octet.proofs.Cases.{and-both}
 use Rattle.octet.proofs.Lists.{length-part, allIn-part, drop-step}
 use Rattle.octet.proofs.Padded.{ok-text, ok-padded, ok-least}
-use Rattle.value.specs.Value.{isTime}
-use Rattle.parts.specs.Parts.{Text, Number, Raw, Value, laid}
+use Rattle.parts.specs.Parts.{Value, laid}
 use Rattle.parts.proofs.ReadBack.{AllFormed, valuesFrom, laid-again}
-use Rattle.fill.specs.Slot.{
-  Slot,
-  Fill,
-  fillOf,
-  slotParts,
-  valuesOf,
-  widthOf,
-  placeOf,
-  slotWidth,
-  fullTime,
-  bodyOf,
-  slotOf,
-  fillMark,
-  markOf,
-  isFill,
-  execOf,
-  orderOf,
-  symbolOf,
-  sideOf,
-  quantityOf,
-  sharesOf,
-  priceOf,
-  cumOf,
-  timeOf,
-  textLawful,
-  textsLawful,
-  sumsLawful,
-  mostPrice,
-  fillLawful,
-}
+use Rattle.fill.specs.Slot.{Slot, Fill, fillOf, slotParts, valuesOf, widthOf, placeOf, slotWidth, bodyOf, slotOf, fillMark, markOf, isFill}
+use Rattle.fill.specs.Slot.{execOf, orderOf, symbolOf, sideOf, quantityOf, sharesOf, priceOf, cumOf, timeOf, textLawful, mostPrice, fillLawful}
 use Rattle.fill.proofs.Fields.{Sound}
-use Rattle.fill.proofs.Lawful.{Sums, lawful-sums}
+use Rattle.fill.proofs.Lawful.{lawful-parts, lawful-sums}
 use Rattle.fill.proofs.Lines.{text-most}
 
 -- what a slot tells of a fill
@@ -56,31 +26,12 @@ abbrev pub toldBy : Slot → Fill
 toldBy s =
     fillOf (textOf (execOf s)) (textOf (orderOf s)) (textOf (symbolOf s)) (sideOf s) (quantityOf s) (sharesOf s) (priceOf s) (cumOf s) (timeOf s)
 
--- its texts, its side, its price and its time, beside its sums (Lawful)
-record Tells (s : Slot) : Type 0 where
-  exec : textLawful (execOf s) ≡ true
-  order : textLawful (orderOf s) ≡ true
-  symbol : textLawful (symbolOf s) ≡ true
-  side : between 1 2 (sideOf s) ≡ true
-  price : priceOf s ≤ mostPrice
-  time : isTime (timeOf s) ≡ true
-
-tells : (s : Slot) → fillLawful s ≡ true → Tells s
-unfolding fillLawful
-tells s e =
-    let front = and-left (textsLawful s && between 1 2 (sideOf s) && sumsLawful s && leb (priceOf s) mostPrice) (isTime (timeOf s)) e in
-    let three = and-left (textsLawful s && between 1 2 (sideOf s) && sumsLawful s) (leb (priceOf s) mostPrice) front in
-    let two = and-left (textsLawful s && between 1 2 (sideOf s)) (sumsLawful s) three in
-    let texts = and-left (textsLawful s) (between 1 2 (sideOf s)) two in
-    let ids = and-left (textLawful (execOf s) && textLawful (orderOf s)) (textLawful (symbolOf s)) texts in
-    record {
-      exec = and-left (textLawful (execOf s)) (textLawful (orderOf s)) ids;
-      order = and-right (textLawful (execOf s)) (textLawful (orderOf s)) ids;
-      symbol = and-right (textLawful (execOf s) && textLawful (orderOf s)) (textLawful (symbolOf s)) texts;
-      side = and-right (textsLawful s) (between 1 2 (sideOf s)) two;
-      price = leb-true (priceOf s) mostPrice (and-right (textsLawful s && between 1 2 (sideOf s) && sumsLawful s) (leb (priceOf s) mostPrice) front);
-      time = and-right (textsLawful s && between 1 2 (sideOf s) && sumsLawful s && leb (priceOf s) mostPrice) (isTime (timeOf s)) e;
-    }
+-- its texts
+texts : (s : Slot) → fillLawful s ≡ true → (textLawful (execOf s) ≡ true) × (textLawful (orderOf s) ≡ true) × (textLawful (symbolOf s) ≡ true)
+texts s e =
+    let two = and-both (textLawful (execOf s) && textLawful (orderOf s)) (textLawful (symbolOf s)) (lawful-parts s e .0) in
+    let one = and-both (textLawful (execOf s)) (textLawful (orderOf s)) (two .0) in
+    (one .0, one .1, two .1)
 
 -- a text of a lawful slot, in a part of some width
 text-formed : (width : ℕ) (f : List ℕ) → length f ≡ width → 1 ≤ width → textLawful f ≡ true → (padded width (textOf f) ≡ f) × (length (textOf f) < width)
@@ -88,33 +39,34 @@ text-formed width f l h e =
     (ap (λ (w : ℕ). padded w (textOf f)) (sym l) ∙ ok-padded 1 33 126 f (omega arith) e, omega (arith, text-most (width - 1) f (omega arith)))
 
 module _ (s : Slot) (wide : length s ≡ slotWidth) (law : fillLawful s ≡ true) where
-  part-long : (i : ℕ) → placeOf i + widthOf i ≤ slotWidth → length (take (widthOf i) (drop (placeOf i) s)) ≡ widthOf i
+  part-long : (i : ℕ) → placeOf i + widthOf i ≤ slotWidth → length (part (placeOf i) (widthOf i) s) ≡ widthOf i
   part-long i h = length-part (placeOf i) (widthOf i) s (omega arith)
 
   pub told-sound : Sound (toldBy s)
   told-sound =
-      let t = tells s law in
+      let t = texts s law in
+      let p = lawful-parts s law in
       let n = lawful-sums s law in
       let exec-long : length (execOf s) ≡ 21 = part-long 0 (omega arith) in
       let order-long : length (orderOf s) ≡ 21 = part-long 1 (omega arith) in
       let symbol-long : length (symbolOf s) ≡ 9 = part-long 2 (omega arith) in
       record {
-        exec-some = ok-least 1 33 126 (execOf s) (omega arith) (t .exec);
+        exec-some = ok-least 1 33 126 (execOf s) (omega arith) (t .0);
         exec-short = text-most 20 (execOf s) (omega arith);
-        exec-graph = ok-text 1 33 126 (execOf s) (t .exec);
-        order-some = ok-least 1 33 126 (orderOf s) (omega arith) (t .order);
+        exec-graph = ok-text 1 33 126 (execOf s) (t .0);
+        order-some = ok-least 1 33 126 (orderOf s) (omega arith) (t .1);
         order-short = text-most 20 (orderOf s) (omega arith);
-        order-graph = ok-text 1 33 126 (orderOf s) (t .order);
-        symbol-some = ok-least 1 33 126 (symbolOf s) (omega arith) (t .symbol);
+        order-graph = ok-text 1 33 126 (orderOf s) (t .1);
+        symbol-some = ok-least 1 33 126 (symbolOf s) (omega arith) (t .2);
         symbol-short = text-most 8 (symbolOf s) (omega arith);
-        symbol-graph = ok-text 1 33 126 (symbolOf s) (t .symbol);
-        side-one = t .side;
+        symbol-graph = ok-text 1 33 126 (symbolOf s) (t .2);
+        side-one = p .1;
         shares-some = n .some;
         shares-cum = n .cum;
         cum-quantity = n .quantity;
         quantity-most = n .most;
-        price-most = t .price;
-        time-time = t .time;
+        price-most = leb-true (priceOf s) mostPrice (p .3);
+        time-time = p .4;
       }
 
   module _ (fill : isFill s ≡ true) (bytes : allIn 0 255 s ≡ true) where
@@ -123,28 +75,12 @@ module _ (s : Slot) (wide : length s ≡ slotWidth) (law : fillLawful s ≡ true
 
     formed : AllFormed slotParts 1 s
     formed =
-        let t = tells s law in (
-          text-formed 21 (execOf s) (part-long 0 (omega arith)) (omega arith) (t .exec),
-          (
-            text-formed 21 (orderOf s) (part-long 1 (omega arith)) (omega arith) (t .order),
-            (
-              text-formed 9 (symbolOf s) (part-long 2 (omega arith)) (omega arith) (t .symbol),
-              (
-                allIn-part 0 255 (placeOf 3) (widthOf 3) s bytes,
-                (
-                  allIn-part 0 255 (placeOf 4) (widthOf 4) s bytes,
-                  (
-                    allIn-part 0 255 (placeOf 5) (widthOf 5) s bytes,
-                    (
-                      allIn-part 0 255 (placeOf 6) (widthOf 6) s bytes,
-                      (allIn-part 0 255 (placeOf 7) (widthOf 7) s bytes, (tt, tt)),
-                    ),
-                  ),
-                ),
-              ),
-            ),
-          ),
-        )
+        let t = texts s law in
+        let exec = text-formed 21 (execOf s) (part-long 0 (omega arith)) (omega arith) (t .0) in
+        let order = text-formed 21 (orderOf s) (part-long 1 (omega arith)) (omega arith) (t .1) in
+        let symbol = text-formed 9 (symbolOf s) (part-long 2 (omega arith)) (omega arith) (t .2) in
+        let n : (i : ℕ) → allIn 0 255 (part (placeOf i) (widthOf i) s) ≡ true = λ i. allIn-part 0 255 (placeOf i) (widthOf i) s bytes in
+        (exec, (order, (symbol, (n 3, (n 4, (n 5, (n 6, (n 7, (tt, tt)))))))))
 
     -- its time is whole
     told-values : valuesOf (toldBy s) ≡ valuesFrom slotParts 1 s

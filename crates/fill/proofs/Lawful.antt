@@ -2,6 +2,7 @@
 --     texts-by, sums-by, lawful-by     a fill's definition, test by test; names-by, codes-by, entry-by     an entry's
 --     no-entry, no-fill     no slot is both
 --     lawful-entry, lawful-fill     what is asked of a slot, by its first byte
+--     lawful-parts     what is asked of a fill, one by one
 --     lawful-sums     what the sums of a lawful fill are
 use mathlib.Core.Path.{_≡_, ap}
 use mathlib.Core.Bool.{Bool, true, false, _&&_}
@@ -10,7 +11,7 @@ use lib.Dec.{leb, eqb}
 use lib.ListN.{getD}
 use Rattle.octet.specs.Bytes.{between}
 use borrow.Author.Tests.{leb-true, eqb-true}
-use Rattle.octet.proofs.Cases.{and-left, and-right}
+use Rattle.octet.proofs.Cases.{and-both}
 use Rattle.value.specs.Value.{isTime}
 use Rattle.fill.specs.Slot.{
   Slot,
@@ -92,6 +93,17 @@ module _ (s : Slot) where
   unfolding slotLawful
   lawful-fill e = rw e
 
+-- what is asked of a fill, one by one
+pub lawful-parts : (s : Slot) → fillLawful s ≡ true
+    → (textsLawful s ≡ true) × (between 1 2 (sideOf s) ≡ true) × (sumsLawful s ≡ true) × (leb (priceOf s) mostPrice ≡ true) × (isTime (timeOf s) ≡ true)
+unfolding fillLawful
+lawful-parts s e =
+    let four = and-both (textsLawful s && between 1 2 (sideOf s) && sumsLawful s && leb (priceOf s) mostPrice) (isTime (timeOf s)) e in
+    let three = and-both (textsLawful s && between 1 2 (sideOf s) && sumsLawful s) (leb (priceOf s) mostPrice) (four .0) in
+    let two = and-both (textsLawful s && between 1 2 (sideOf s)) (sumsLawful s) (three .0) in
+    let one = and-both (textsLawful s) (between 1 2 (sideOf s)) (two .0) in
+    (one .0, one .1, two .1, three .1, four .1)
+
 -- what the sums of a lawful fill are
 pub record Sums (s : Slot) : Type 0 where
   pub some : 1 ≤ sharesOf s
@@ -100,15 +112,13 @@ pub record Sums (s : Slot) : Type 0 where
   pub most : quantityOf s ≤ mostContracts
 
 pub lawful-sums : (s : Slot) → fillLawful s ≡ true → Sums s
-unfolding fillLawful
 lawful-sums s e =
-    let front = and-left (textsLawful s && between 1 2 (sideOf s) && sumsLawful s && leb (priceOf s) mostPrice) (isTime (timeOf s)) e in
-    let sums = and-right (textsLawful s && between 1 2 (sideOf s)) (sumsLawful s) (and-left (textsLawful s && between 1 2 (sideOf s) && sumsLawful s) (leb (priceOf s) mostPrice) front) in
-    let three = and-left (leb 1 (sharesOf s) && leb (sharesOf s) (cumOf s) && leb (cumOf s) (quantityOf s)) (leb (quantityOf s) mostContracts) sums in
-    let two = and-left (leb 1 (sharesOf s) && leb (sharesOf s) (cumOf s)) (leb (cumOf s) (quantityOf s)) three in
+    let three = and-both (leb 1 (sharesOf s) && leb (sharesOf s) (cumOf s) && leb (cumOf s) (quantityOf s)) (leb (quantityOf s) mostContracts) (lawful-parts s e .2) in
+    let two = and-both (leb 1 (sharesOf s) && leb (sharesOf s) (cumOf s)) (leb (cumOf s) (quantityOf s)) (three .0) in
+    let one = and-both (leb 1 (sharesOf s)) (leb (sharesOf s) (cumOf s)) (two .0) in
     record {
-      some = leb-true 1 (sharesOf s) (and-left (leb 1 (sharesOf s)) (leb (sharesOf s) (cumOf s)) two);
-      cum = leb-true (sharesOf s) (cumOf s) (and-right (leb 1 (sharesOf s)) (leb (sharesOf s) (cumOf s)) two);
-      quantity = leb-true (cumOf s) (quantityOf s) (and-right (leb 1 (sharesOf s) && leb (sharesOf s) (cumOf s)) (leb (cumOf s) (quantityOf s)) three);
-      most = leb-true (quantityOf s) mostContracts (and-right (leb 1 (sharesOf s) && leb (sharesOf s) (cumOf s) && leb (cumOf s) (quantityOf s)) (leb (quantityOf s) mostContracts) sums);
+      some = leb-true 1 (sharesOf s) (one .0);
+      cum = leb-true (sharesOf s) (cumOf s) (one .1);
+      quantity = leb-true (cumOf s) (quantityOf s) (two .1);
+      most = leb-true (quantityOf s) mostContracts (three .1);
     }

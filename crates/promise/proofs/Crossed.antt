@@ -1,13 +1,15 @@
--- Request C-12: the report of a fill that crossed a cancel is booked; what the request moved; and 39=8 stays refused.
-use Prim.Native.Nat.{ℕ}
-use mathlib.Core.Path.{_≡_, refl, sym, ap, _∙_, subst}
-use mathlib.Core.Logic.{inr, ⊎-elim}
+-- Request C-12: the report of a fill that crossed a cancel is booked; what the request moved; 39=8 stays refused; and
+-- the restart is the function that it was.
+use Prim.Native.Nat.{ℕ, _+_}
+use mathlib.Core.Path.{_≡_, refl, sym, ap, _∙_}
+use mathlib.Core.Logic.{_↔_, inr, ⊎-elim}
 use mathlib.Core.List.{List}
 use mathlib.Core.Option.{Option, none, some}
 use mathlib.Core.Bool.{Bool, true, false, cond, not}
 use native.Mathlib.Omega.{arith}
 use lib.Dec.{eqb}
-use Rattle.octet.specs.Bytes.{bytesOf, between, is}
+use borrow.Author.Tests.{eq-eqb, le-leb}
+use Rattle.octet.specs.Bytes.{between, is}
 use Rattle.octet.specs.Maybe.{isNone, orElse}
 use Rattle.octet.proofs.Cases.{contrary}
 use Rattle.frame.specs.Finding.{foundIn, bodyIn}
@@ -18,29 +20,43 @@ use Rattle.field.specs.Look.{lookOf}
 use Rattle.table.specs.Rows.{kindIn}
 use Rattle.table.specs.Steps.{numberAt}
 use Rattle.table.proofs.Messages.{report-values}
-use Rattle.answer.specs.Numbers.{fault, wrongValue}
+use Rattle.answer.specs.Numbers.{nineDigits}
 use Rattle.answer.specs.declared.Setup.{Setup}
+use Rattle.answer.specs.declared.Phase.{Phase}
 use Rattle.answer.specs.declared.Fault.{Fault}
 use Rattle.answer.specs.declared.Kind.the-variants as kind
 use Rattle.answer.specs.declared.Outcome.the-variants as outcome
 use Rattle.answer.specs.declared.Refusal.{Refusal}
-use Rattle.report.specs.Report.{isCrossed, unlessKept, ruleFault, isAside, afterRules, reportedOf, reportOf, reportIn, reportedIn, slotIn}
+use Rattle.fill.specs.Slot.{Slot, fillLawful}
+use Rattle.fill.specs.Booked.{slotLawful}
+use Rattle.fill.proofs.Lawful.{lawful-fill}
+use Rattle.book.specs.Place.{isNew}
+use Rattle.book.specs.Admitting.{place}
+use Rattle.book.specs.declared.Placed.{Placed}
+use Rattle.book.specs.declared.Placed.the-variants as placed
+use Rattle.book.proofs.ByKind.{fill-no-entry}
+use Rattle.note.specs.Notes.{Books}
+use Rattle.note.specs.Kept.{Kept, bookable, lawful}
+use Rattle.note.proofs.Keeping.{lawful-books, bookable-facts}
+use Rattle.report.specs.Report.{Report as Values, isCrossed, unlessKept, ruleFault, isAside, afterRules, reportedOf, reportOf, reportIn, reportedIn, slotIn}
 use Rattle.report.specs.Crossed.{formerFault}
+use Rattle.report.specs.Noted.{Tells, IsFill}
 use Rattle.report.specs.declared.Reported.{Reported}
 use Rattle.report.specs.declared.Reported.the-variants as reported
-use Rattle.report.proofs.Kept.{Kept, rules-kept, fill-keeps, aside-is}
+use Rattle.report.proofs.Kept.{rules-kept, fill-keeps, aside-is}
 use Rattle.report.proofs.Crossed.{difference}
+use Rattle.report.proofs.Noted.{noted}
 use Rattle.session.specs.Judging.{judge, rejected, passed}
 use Rattle.session.specs.declared.Judged.{Judged}
 use Rattle.session.specs.declared.Verdict.{Verdict}
 use Rattle.session.specs.declared.Verdict.the-variants.{Settled, Report, Correction}
 use Rattle.session.proofs.Turns.{judge-asks}
 use Rattle.tally.specs.declared.Tally.{Tally}
-use Rattle.receiver.specs.State.{State, Did, quiet, sessionOf}
+use Rattle.receiver.specs.State.{State, sessionOf}
 use Rattle.receiver.specs.Calls.{Brings, Nothing, This, ofReport, broughtBy, bringsOf, becomes, deedOf, spoken, settled, carriedOut, framed, foundTo, message}
-use Rattle.receiver.specs.Receiver.{Message, Lent, refusalOf, unrefused, unless-refused, does, resultOf, call}
+use Rattle.receiver.specs.Receiver.{Message, Lent, refusalOf, unrefused, unless-refused, does, call}
 use Rattle.promise.specs.Demand2.{InTurn, Fresh}
-use Rattle.promise.specs.Crossed.{CrossedWell, CrossedBookable, CrossedBooked, formerBy, formerBrings, rejects, crossedBrings, Moved, StaysRefused}
+use Rattle.promise.specs.Crossed.{CrossedWell, CrossedBooked, formerBy, formerBrings, rejects, crossedBrings, Moved, StaysRefused, WouldBook, SameRestart}
 use Rattle.promise.proofs.Booking.{turned, turned-correction, demand2}
 
 -- ---- the second demand
@@ -69,7 +85,8 @@ module _ (setup : Setup) (st : State) (ps : Pieces) where
   judged : InTurn setup st ps kind.Report → judge setup (sessionOf st) ps ≡ Report (st .kept .e)
   judged t = judge-asks setup (sessionOf st) ps (st .kept .e) (t .number) (t .parties) (t .phase) refl (t .type) (t .faultless)
 
-  by-verdict : (v : Verdict) → judge setup (sessionOf st) ps ≡ v → ¬ InTurn setup st ps kind.Report → broughtBy (sessionOf st) (lookOf ps) v ≡ formerBy (sessionOf st) (lookOf ps) v
+  by-verdict : (v : Verdict) → judge setup (sessionOf st) ps ≡ v → ¬ InTurn setup st ps kind.Report
+      → broughtBy (sessionOf st) (lookOf ps) v ≡ formerBy (sessionOf st) (lookOf ps) v
   unfolding broughtBy
   by-verdict (Settled j) e h = refl
   by-verdict (Report n) e h = absurd (h (turned setup st ps n e))
@@ -128,7 +145,8 @@ module _ (setup : Setup) (st : State) (ps : Pieces) where
 
 -- ---- "39=8 stays refused"
 
-module _ (setup : Setup) (st : State) (ps : Pieces) (type : kindIn setup ps ≡ kind.Report) (one : is "1" (textAt 39 ps) ≡ false) (two : is "2" (textAt 39 ps) ≡ false) (four : is "4" (textAt 39 ps) ≡ false) where
+module _ (setup : Setup) (st : State) (ps : Pieces) (type : kindIn setup ps ≡ kind.Report)
+    (one : is "1" (textAt 39 ps) ≡ false) (two : is "2" (textAt 39 ps) ≡ false) (four : is "4" (textAt 39 ps) ≡ false) where
   -- a fill has 39 equal to 150, which is 1 or 2, or 4
   no-fill : (n : ℕ) → judge setup (sessionOf st) ps ≡ Report n → reportedIn ps ≡ reported.Fill → ⊥
   unfolding reportOf
@@ -186,3 +204,41 @@ module _ (setup : Setup) (st : State) (b : Lent) (t : Tally) (time s : List ℕ)
 
   pub stays-refused : StaysRefused setup st b t time s len
   stays-refused = record { only = only; eight = λ h type e. only h type (ap (is "1") e) (ap (is "2") e) (ap (is "4") e) }
+
+-- ---- the restart
+
+only-new : (p : Placed) → isNew p ≡ true → p ≡ placed.New
+only-new (placed.Clash f) e = contrary e refl
+only-new placed.Already e = contrary e refl
+only-new placed.New e = refl
+
+module _ (rules : Values → Option Fault) (setup : Setup) (phase : Phase) (q : Kept) (e o : ℕ) (s : Slot) (is : IsFill s)
+    (same : (fillLawful s ≡ true) ↔ Tells rules setup phase o s) where
+  as-fill : slotLawful s ≡ fillLawful s
+  as-fill = lawful-fill s (fill-no-entry s (is .marked))
+
+  would-book : lawful q (Books e o s) ≡ true → WouldBook rules setup phase q e o s
+  would-book law =
+      let l = lawful-books q e o s law in
+      let b = bookable-facts (q .slots) (q .load) s (l .3) in
+      record { one-up = l .0; within = l .1; sent = l .2; told = same .0 (sym as-fill ∙ b .0); new = only-new (place (q .slots) s) (b .1); room = b .2 }
+
+  is-lawful : WouldBook rules setup phase q e o s → lawful q (Books e o s) ≡ true
+  unfolding lawful bookable
+  is-lawful w =
+      rw (
+        eq-eqb e (q .e + 1) (w .one-up),
+        le-leb e nineDigits (w .within),
+        eq-eqb o (q .o) (w .sent),
+        as-fill ∙ same .1 (w .told),
+        w .new,
+        w .room,
+      )
+
+pub same-restart : (setup : Setup) (phase : Phase) (q : Kept) (e o : ℕ) (s : Slot) → IsFill s → SameRestart setup phase q e o s
+same-restart setup phase q e o s is =
+    let n = noted setup phase o s is in
+    record {
+      now = (would-book ruleFault setup phase q e o s is (n .now), is-lawful ruleFault setup phase q e o s is (n .now));
+      before = (would-book formerFault setup phase q e o s is (n .before), is-lawful formerFault setup phase q e o s is (n .before));
+    }

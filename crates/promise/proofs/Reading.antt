@@ -8,17 +8,17 @@ use mathlib.Core.Path.{_≡_, refl, sym, ap, _∙_, subst}
 use mathlib.Core.Logic.{⊎-elim}
 use mathlib.Core.List.{List, [], _∷_, _++_, append-assoc}
 use mathlib.Core.Option.{Option, none, some}
-use mathlib.Core.Bool.{Bool, true, false, cond, _&&_, not}
+use mathlib.Core.Bool.{Bool, true, false, _&&_, not}
 use native.Mathlib.Omega.{arith}
 use lib.ListN.{length, take, drop, getD, replicate}
 use lib.Seq.{take-all}
 use lib.Dec.{ltb, eqb}
 use borrow.Author.Tests.{eqb-true, ltb-true, not-false}
 use Rattle.octet.specs.Bytes.{bytesOf, between, allIn, untilByte}
-use Rattle.octet.specs.Maybe.{isNone, orElse, first, unless}
+use Rattle.octet.specs.Maybe.{orElse, first, unless}
 use Rattle.octet.specs.Splice.{splice}
 use Rattle.octet.proofs.Cases.{of-cond, bool-case, contrary, and-both}
-use Rattle.octet.proofs.Lists.{splice-take, until-in, between-low, between-high, is-between}
+use Rattle.octet.proofs.Lists.{splice-take, until-in, between-low, between-high}
 use Rattle.text.specs.Decimal.{digitRun, digits}
 use Rattle.value.specs.Value.{isTime}
 use Rattle.value.proofs.Numbers.{front-below}

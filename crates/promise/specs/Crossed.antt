@@ -1,9 +1,11 @@
--- Request C-12, "A fill that crossed a cancel": the second demand for its report, all that the request moved of the receiver, and that 39=8 stays refused.
-use Prim.Native.Nat.{ℕ, _≤_}
+-- Request C-12, "A fill that crossed a cancel": the second demand for its report, all that the request moved of the receiver, that 39=8 stays refused, and
+-- that the restart is the function that it was.
+use Prim.Native.Nat.{ℕ, _+_, _≤_}
 use mathlib.Core.Path.{_≡_}
 use mathlib.Core.List.{List}
-use mathlib.Core.Option.{none}
-use mathlib.Core.Bool.{Bool, true, false, cond}
+use mathlib.Core.Logic.{_↔_}
+use mathlib.Core.Option.{Option, none}
+use mathlib.Core.Bool.{true, false, cond}
 use lib.Dec.{eqb}
 use Rattle.octet.specs.Bytes.{bytesOf, between, is}
 use Rattle.octet.specs.Maybe.{isNone}
@@ -15,13 +17,18 @@ use Rattle.table.specs.Rows.{kindIn}
 use Rattle.table.specs.Steps.{numberAt}
 use Rattle.answer.specs.Numbers.{fault, wrongValue}
 use Rattle.answer.specs.declared.Setup.{Setup}
+use Rattle.answer.specs.declared.Phase.{Phase}
 use Rattle.answer.specs.declared.Fault.{Fault}
 use Rattle.answer.specs.declared.Kind.the-variants as kind
 use Rattle.answer.specs.declared.Outcome.the-variants as outcome
+use Rattle.fill.specs.Slot.{Slot}
 use Rattle.book.specs.Admitting.{place, hasRoom}
 use Rattle.book.specs.declared.Placed.the-variants as placed
-use Rattle.report.specs.Report.{isCrossed, isAside, afterRules, reportOf, slotIn}
+use Rattle.note.specs.Notes.{Books}
+use Rattle.note.specs.Kept.{Kept, lawful}
+use Rattle.report.specs.Report.{Report as Values, isCrossed, ruleFault, isAside, afterRules, reportOf, slotIn}
 use Rattle.report.specs.Crossed.{formerFault}
+use Rattle.report.specs.Noted.{Tells}
 use Rattle.report.specs.Correction.{entryFor}
 use Rattle.session.specs.Judging.{judge, rejected, passed}
 use Rattle.session.specs.declared.Session.{Session}
@@ -100,3 +107,19 @@ pub record StaysRefused (setup : Setup) (st : State) (b : Lent) (t : Tally) (tim
       → call setup st b t (Message time s) .did .next .kept .slots ≡ st .kept .slots
   pub eight : foundIn s ≡ found.Framed len → kindIn setup (piecesOf (bodyIn len s)) ≡ kind.Report → textAt 39 (piecesOf (bodyIn len s)) ≡ bytesOf "8"
       → call setup st b t (Message time s) .did .next .kept .slots ≡ st .kept .slots
+
+-- ---- the restart
+
+-- "F has E one up within that, O the same, and a report that would be booked": one that keeps such rules, whose fill is new, and for which there is room
+pub record WouldBook (rules : Values → Option Fault) (setup : Setup) (phase : Phase) (q : Kept) (e o : ℕ) (s : Slot) : Type 0 where
+  pub one-up : e ≡ q .e + 1
+  pub within : e ≤ 999999999
+  pub sent : o ≡ q .o
+  pub told : Tells rules setup phase o s
+  pub new : place (q .slots) s ≡ placed.New
+  pub room : hasRoom (q .slots) (q .load) s ≡ true
+
+-- a restart takes a note of a fill exactly where that is so, by the rules of now and by document 01's: the request left it the function that it was
+pub record SameRestart (setup : Setup) (phase : Phase) (q : Kept) (e o : ℕ) (s : Slot) : Type 0 where
+  pub now : (lawful q (Books e o s) ≡ true) ↔ WouldBook ruleFault setup phase q e o s
+  pub before : (lawful q (Books e o s) ≡ true) ↔ WouldBook formerFault setup phase q e o s

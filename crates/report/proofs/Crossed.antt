@@ -1,6 +1,6 @@
 -- Request C-12 changed this and nothing else.
 --     difference     the rules of now beside document 01's
-use mathlib.Core.Path.{_≡_, refl}
+use mathlib.Core.Path.{_≡_}
 use mathlib.Core.Logic.{⊎-elim}
 use mathlib.Core.Option.{none}
 use mathlib.Core.Bool.{Bool, true, false, Bool·beq}

@@ -17,10 +17,9 @@ use Rattle.octet.specs.Bytes.{bytesOf, is}
 use Rattle.octet.specs.Maybe.{isNone, orElse}
 use Rattle.octet.proofs.Cases.{true-not-false, and-both, and-make, bool-case, orElse-neither}
 use Rattle.octet.proofs.Lists.{same-true, same-of, is-between, between-low, between-high}
-use Rattle.field.specs.Pieces.{Pieces, firstOf, textAt}
+use Rattle.field.specs.Pieces.{Pieces, firstOf}
 use Rattle.field.specs.Look.{Look, lookOf}
 use Rattle.field.proofs.Looks.{missing-of}
-use Rattle.table.specs.Steps.{numberAt}
 use Rattle.answer.specs.declared.Fault.{Fault}
 use Rattle.report.specs.declared.Reported.{Reported}
 use Rattle.report.specs.declared.Reported.the-variants.{Faulty, Aside}
@@ -101,7 +100,8 @@ module _ (r : Report) where
   abbrev crossed : Bool
   crossed = isCrossed (r .execType) (r .status)
 
-  plainly : crossed ≡ false → leavesOk crossed (r .sums) ≡ true → tied crossed (r .sums) (r .execType) ≡ true → statusOk crossed (r .execType) (r .status) ≡ true → Plainly r
+  plainly : crossed ≡ false → leavesOk crossed (r .sums) ≡ true → tied crossed (r .sums) (r .execType) ≡ true → statusOk crossed (r .execType) (r .status) ≡ true
+      → Plainly r
   plainly h = rw h (λ a b c. record { leaves = eqb-true _ _ a; done = both-so _ _ b; status = same-true _ _ c })
 
   crossing : crossed ≡ true → leavesOk crossed (r .sums) ≡ true → Crossing r

@@ -2,9 +2,9 @@
 --     sound-told     what a report can say of a fill, some report does say, and it keeps the rules
 --     noted     a fill is lawful exactly where some report tells of it, by the rules of now and by document 01's
 use mathlib.Core.Path.{_≡_, refl, sym, ap, _∙_, subst}
-use mathlib.Core.Logic.{_⊎_, inl, inr, ⊎-elim}
+use mathlib.Core.Logic.{_⊎_, inl, ⊎-elim}
 use mathlib.Core.List.{List, [], _∷_}
-use mathlib.Core.Option.{Option, none}
+use mathlib.Core.Option.{none}
 use mathlib.Core.Bool.{Bool, true, false, cond}
 use Prim.Native.Nat.{ℕ, _-_, _≤_}
 use native.Mathlib.Omega.{arith}
@@ -13,27 +13,26 @@ use lib.Dec.{eqb}
 use borrow.Author.Tests.{eqb-true, eqb-false}
 use Rattle.octet.specs.Bytes.{bytesOf, allIn, untilByte, same, between}
 use Rattle.octet.specs.Maybe.{first, unless}
-use Rattle.octet.proofs.Cases.{contrary, bool-case, of-cond}
+use Rattle.octet.proofs.Cases.{bool-case}
 use Rattle.octet.proofs.Lists.{until-in, between-low, between-high}
-use Rattle.text.specs.Decimal.{decimalBy, decimal, priceText}
+use Rattle.text.specs.Decimal.{decimal, priceText}
 use Rattle.text.specs.Fields.{Field, _is_, layout}
 use Rattle.text.proofs.Decimals.{decimal-small, price-length, price-unmarked}
-use Rattle.value.specs.Value.{numberOr, priceIn, isTime, isCode}
+use Rattle.value.specs.Value.{numberOr, priceIn, isCode}
 use Rattle.value.proofs.Times.{time-is, time-bytes}
 use Rattle.value.proofs.Back.{decimal-formed, number-or-back, price-text-formed, price-in-back}
-use Rattle.field.specs.Pieces.{Pieces, piecesOf, valuesOf, firstOf, textAt, scanOf}
+use Rattle.field.specs.Pieces.{Pieces, piecesOf, valuesOf, textAt}
 use Rattle.field.specs.Look.{lookOf}
 use Rattle.field.specs.Written.{Each, Whole, valuesWith}
 use Rattle.field.specs.Written as each
 use Rattle.field.proofs.Written.{plain-of, whole, number-whole, values-layout, scan-layout}
 use Rattle.answer.specs.declared.Setup.{Setup}
 use Rattle.answer.specs.declared.Phase.{Phase}
-use Rattle.answer.specs.declared.Fault.{Fault}
 use Rattle.answer.specs.declared.Kind.the-variants as kind
-use Rattle.table.specs.declared.Codes.the-variants.{New, Side, Filled}
+use Rattle.table.specs.declared.Codes.the-variants.{Side, Filled}
 use Rattle.table.specs.Rows.{codesOf, kindOf, kindIn}
 use Rattle.table.specs.Steps.{numberAt, faultIn}
-use Rattle.table.proofs.Faultless.{Counted, Named, Coded}
+use Rattle.table.proofs.Faultless.{Counted, Coded}
 use Rattle.table.proofs.Meets.{Has, ReportFields, report-meets}
 use Rattle.fill.specs.Slot.{Slot, Fill, bodyOf, slotOf, isFill, fillLawful}
 use Rattle.fill.proofs.Fields.{Sound}
@@ -53,10 +52,14 @@ use Rattle.report.proofs.Lawful.{report-lawful}
 abbrev openAfter : Fill → ℕ
 openAfter f = f .quantity - f .cum
 
-abbrev doneBy : Fill → List ℕ
-doneBy f = cond (eqb (openAfter f) 0) (bytesOf "2") (bytesOf "1")
+-- "150 is 2 exactly when 151 is 0"
+abbrev codeFor : Bool → List ℕ
+codeFor last = cond last (bytesOf "2") (bytesOf "1")
 
-abbrev pub fieldsFor : Fill → List Field
+abbrev doneBy : Fill → List ℕ
+doneBy f = codeFor (eqb (openAfter f) 0)
+
+abbrev fieldsFor : Fill → List Field
 fieldsFor f =
     (35 is bytesOf "8") ∷ (52 is f .time) ∷ (17 is f .exec) ∷ (37 is f .order) ∷ (20 is bytesOf "0") ∷ (55 is f .symbol) ∷ (54 is decimal (f .side))
     ∷ (38 is decimal (f .quantity)) ∷ (32 is decimal (f .shares)) ∷ (31 is priceText (f .price)) ∷ (14 is decimal (f .cum)) ∷ (151 is decimal (openAfter f))
@@ -75,10 +78,14 @@ side-code n e =
     (λ h. let two : n ≡ 2 = omega (arith, eqb-false n 1 h) in ap (isCode (codesOf Side)) (ap decimal two ∙ decimal-small 2 (omega arith)))
     (bool-case (eqb n 1))
 
-done-code : (b : Bool) → (Coded Filled (cond b (bytesOf "2") (bytesOf "1")) × (same (bytesOf "2") (cond b (bytesOf "2") (bytesOf "1")) ≡ b))
-    × ((1 ≤ length (cond b (bytesOf "2") (bytesOf "1"))) × (untilByte 1 (cond b (bytesOf "2") (bytesOf "1")) ≡ length (cond b (bytesOf "2") (bytesOf "1"))))
-done-code true = ((refl, refl), (omega arith, refl))
-done-code false = ((refl, refl), (omega arith, refl))
+record IsCode (last : Bool) : Type 0 where
+  listed : Coded Filled (codeFor last)
+  says : same (bytesOf "2") (codeFor last) ≡ last
+  clear : (1 ≤ length (codeFor last)) × (untilByte 1 (codeFor last) ≡ length (codeFor last))
+
+done-code : (last : Bool) → IsCode last
+done-code true = record { listed = refl; says = refl; clear = (omega arith, refl) }
+done-code false = record { listed = refl; says = refl; clear = (omega arith, refl) }
 
 module _ (f : Fill) (y : Sound f) where
   time-clear : (1 ≤ length (f .time)) × (untilByte 1 (f .time) ≡ length (f .time))
@@ -86,7 +93,7 @@ module _ (f : Fill) (y : Sound f) where
 
   fields-whole : Each Whole (fieldsFor f)
   fields-whole =
-      let done = done-code (eqb (openAfter f) 0) .1 in
+      let done = done-code (eqb (openAfter f) 0) .clear in
       each.also (whole 35 (bytesOf "8") (omega arith) (omega arith) (omega arith, refl))
       (each.also (whole 52 _ (omega arith) (omega arith) time-clear)
       (each.also (whole 17 (f .exec) (omega arith) (omega arith) (clear-in 33 126 (f .exec) refl (y .exec-some) (y .exec-graph)))
@@ -147,7 +154,7 @@ module _ (f : Fill) (y : Sound f) where
         price = has 31 _ refl (price-text-formed (f .price) (omega (arith, y .price-most)));
         cum = has 14 _ refl (counted 1 (f .cum) (omega arith) (omega arith));
         leaves = has 151 _ refl (counted 0 (openAfter f) (omega arith) (omega arith));
-        execType = has 150 _ refl (done-code (eqb (openAfter f) 0) .0 .0);
+        execType = has 150 _ refl (done-code (eqb (openAfter f) 0) .listed);
         status = has 39 _ refl tt;
         time = has 60 _ refl (y .time-time);
         legs = inl (values 442);
@@ -173,7 +180,7 @@ module _ (f : Fill) (y : Sound f) where
         cum-quantity = omega arith;
         rest = inl (record {
           leaves = omega arith;
-          done = ap (same (bytesOf "2")) (text 150) ∙ done-code (eqb (openAfter f) 0) .0 .1 ∙ ap (λ (n : ℕ). eqb n 0) (sym leaves);
+          done = ap (same (bytesOf "2")) (text 150) ∙ done-code (eqb (openAfter f) 0) .says ∙ ap (λ (n : ℕ). eqb n 0) (sym leaves);
           status = text 39 ∙ sym (text 150);
         });
       }
