@@ -85,6 +85,12 @@ static FIX::Message fill(const string& exec, const string& order, const string& 
     return sent(m);
 }
 
+// the same where what was left of the order is cancelled, and the fill crossed the cancel: nothing is open
+static FIX::Message crossed(FIX::Message m)
+{
+    return with(with(with(m, FIX::ExecType(FIX::ExecType_PARTIAL_FILL)), FIX::OrdStatus(FIX::OrdStatus_CANCELED)), FIX::LeavesQty(0));
+}
+
 // a Trade Cancel, of the exchange's own type: of the trade of X1, with the tags that section 5.2 of the drop marks Y
 static FIX::Message correction()
 {
@@ -253,7 +259,7 @@ static void refused(const string& bytes)
     give(bytes);
 }
 
-// The ways in which a session ends by a fault; then one that we close, with a fill on its way.
+// The ways in which a session ends by a fault; then one that we close, with a fill on its way that crossed a cancel.
 static void ends()
 {
     give(numbered(heartbeat(), 1));
@@ -265,7 +271,7 @@ static void ends()
     refused(numbered(headed(logon(), FIX::FIELD::BeginString, "FIX.4.4"), number));
     send(logon());
     call("close " + CLOCK);
-    send(fill("X7", "7002", "ABC", '2', 10, 1, 0.05, 10));
+    send(crossed(fill("X7", "7002", "ABC", '2', 15, 1, 0.05, 10)));
     send(logout());
 }
 
