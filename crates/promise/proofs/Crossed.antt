@@ -52,11 +52,11 @@ use Rattle.session.specs.declared.Verdict.{Verdict}
 use Rattle.session.specs.declared.Verdict.the-variants.{Settled, Report, Correction}
 use Rattle.session.proofs.Turns.{judge-asks}
 use Rattle.tally.specs.declared.Tally.{Tally}
-use Rattle.receiver.specs.State.{State, sessionOf}
+use Rattle.receiver.specs.State.{State, Did, sessionOf}
 use Rattle.receiver.specs.Calls.{Brings, Nothing, This, ofReport, broughtBy, bringsOf, becomes, deedOf, spoken, settled, carriedOut, framed, foundTo, message}
 use Rattle.receiver.specs.Receiver.{Message, Lent, refusalOf, unrefused, unless-refused, does, call}
 use Rattle.promise.specs.Demand2.{InTurn, Fresh}
-use Rattle.promise.specs.Crossed.{CrossedWell, CrossedBooked, formerBy, formerBrings, rejects, crossedBrings, Moved, StaysRefused, WouldBook, SameRestart}
+use Rattle.promise.specs.Crossed.{CrossedWell, CrossedBooked, foundBy, CalledBy, formerBy, formerBrings, rejects, crossedBrings, Moved, StaysRefused, WouldBook, SameRestart}
 use Rattle.promise.proofs.Booking.{turned, turned-correction, demand2}
 
 -- ---- the second demand
@@ -77,6 +77,16 @@ crossed-booked setup st b t time s len h room u =
     demand2 setup st b t time s len .booked (record { framed = h .framed; turn = h .turn; fresh = fresh }) room u
 
 -- ---- all that it moved
+
+found-by : (setup : Setup) (st : State) (time s : List ℕ) (f : Found) → foundTo setup st time s f ≡ foundBy (bringsOf setup st) setup st time s f
+unfolding foundTo framed deedOf
+found-by setup st time s found.More = refl
+found-by setup st time s (found.Garbled skip) = refl
+found-by setup st time s (found.Framed len) = refl
+
+pub called-by : (setup : Setup) (st : State) (b : Lent) (time s : List ℕ) → CalledBy setup st b time s
+unfolding does unrefused message
+called-by setup st b time s = ap (unless-refused st (refusalOf setup st b (Message time s))) (found-by setup st time s (foundIn s))
 
 module _ (setup : Setup) (st : State) (ps : Pieces) where
   abbrev crossed : Bool
@@ -189,18 +199,19 @@ module _ (setup : Setup) (st : State) (b : Lent) (t : Tally) (time s : List ℕ)
   said-still j = refl
 
   still : foundIn s ≡ found.Framed len → (j : Judged) → bringsOf setup st ps ≡ Nothing j → (o : Option Refusal)
-      → unless-refused st o (unrefused setup st (Message time s)) .next .kept .slots ≡ st .kept .slots
-  unfolding unrefused message foundTo framed deedOf
+      → unless-refused st o (foundBy (bringsOf setup st) setup st time s (foundIn s)) .next .kept .slots ≡ st .kept .slots
   still h j e (some why) = refl
   still h j e none =
-      ap (λ (f : Found). foundTo setup st time s f .next .kept .slots) h
+      ap (λ (f : Found). foundBy (bringsOf setup st) setup st time s f .next .kept .slots) h
       ∙ ap (λ (x : Brings). carriedOut setup st time len ps (becomes st x) .next .kept .slots) e
       ∙ said-still j
 
   only : foundIn s ≡ found.Framed len → kindIn setup ps ≡ kind.Report → is "1" (textAt 39 ps) ≡ false → is "2" (textAt 39 ps) ≡ false → is "4" (textAt 39 ps) ≡ false
       → call setup st b t (Message time s) .did .next .kept .slots ≡ st .kept .slots
-  unfolding call does
-  only h type one two four = let x = brings-nothing setup st ps type one two four in still h (x .0) (x .1) (refusalOf setup st b (Message time s))
+  unfolding call
+  only h type one two four =
+      let x = brings-nothing setup st ps type one two four in
+      ap (λ (d : Did). d .next .kept .slots) (called-by setup st b time s) ∙ still h (x .0) (x .1) (refusalOf setup st b (Message time s))
 
   pub stays-refused : StaysRefused setup st b t time s len
   stays-refused = record { only = only; eight = λ h type e. only h type (ap (is "1") e) (ap (is "2") e) (ap (is "4") e) }

@@ -10,6 +10,7 @@ use lib.Dec.{eqb}
 use Rattle.octet.specs.Bytes.{bytesOf, between, is}
 use Rattle.octet.specs.Maybe.{isNone}
 use Rattle.frame.specs.Finding.{foundIn, bodyIn}
+use Rattle.frame.specs.declared.Found.{Found}
 use Rattle.frame.specs.declared.Found.the-variants as found
 use Rattle.field.specs.Pieces.{Pieces, piecesOf, firstOf, textAt}
 use Rattle.field.specs.Look.{Look, lookOf}
@@ -35,9 +36,10 @@ use Rattle.session.specs.declared.Session.{Session}
 use Rattle.session.specs.declared.Verdict.{Verdict}
 use Rattle.session.specs.declared.Verdict.the-variants.{Settled, Report, Correction}
 use Rattle.tally.specs.declared.Tally.{Tally}
-use Rattle.receiver.specs.State.{State, sessionOf}
-use Rattle.receiver.specs.Calls.{Brings, Nothing, This, ofReport, bringsOf}
-use Rattle.receiver.specs.Receiver.{Message, Lent, call}
+use Rattle.receiver.specs.State.{State, Did, quiet, sessionOf}
+use Rattle.receiver.specs.Calls.{Brings, Nothing, This, ofReport, bringsOf, becomes, carriedOut}
+use Rattle.receiver.specs.Receiver.{Message, Lent, refusalOf, unless-refused, does, call}
+use Rattle.receiver.specs.declared.Answer.the-variants.{More, Garbled}
 use Rattle.promise.specs.Demand2.{InTurn, Unmet, filledResult}
 
 -- ---- the second demand
@@ -88,7 +90,20 @@ crossedBrings st ps =
     (rejects st 151))
     (rejects st 14)
 
--- Everything else of a message call is a function of what the message brings (`becomes`, `carriedOut`), and no other call brings anything
+-- a message call looks at the rules only through what messages bring: by that it is this function
+abbrev pub foundBy : (Pieces → Brings) → Setup → State → List ℕ → List ℕ → Found → Did
+foundBy brings setup st time s found.More = quiet More st
+foundBy brings setup st time s (found.Garbled skip) = quiet (Garbled skip) st
+foundBy brings setup st time s (found.Framed len) = let ps = piecesOf (bodyIn len s) in carriedOut setup st time len ps (becomes st (brings ps))
+
+abbrev pub doesBy : (Pieces → Brings) → Setup → State → Lent → List ℕ → List ℕ → Did
+doesBy brings setup st b time s = unless-refused st (refusalOf setup st b (Message time s)) (foundBy brings setup st time s (foundIn s))
+
+-- so the call of now is that of what messages bring now; that of before is the same of what they brought. No other call is given a message
+abbrev pub CalledBy : Setup → State → Lent → List ℕ → List ℕ → Type 0
+CalledBy setup st b time s = does setup st b (Message time s) ≡ doesBy (bringsOf setup st) setup st b time s
+
+-- and this is where the two differ
 pub record Moved (setup : Setup) (st : State) (ps : Pieces) : Type 0 where
   -- a message that is no faultless report in its turn, or did not cross, brings what it brought
   pub elsewhere : ¬ InTurn setup st ps kind.Report → bringsOf setup st ps ≡ formerBrings setup st ps
