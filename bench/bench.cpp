@@ -21,10 +21,19 @@ using std::vector;
 
 // ---- the proved functions: crates/bench. A slice is a pointer and a length, an array a pointer
 
+// a row of the totals page
+struct OrderRow {
+    uint8_t id[31];
+    uint32_t waiting;
+};
+
 extern "C" {
 uint64_t bench_message(const uint8_t *ours, size_t n, const uint8_t *theirs, size_t k, uint32_t e, uint32_t fills, uint32_t orders, uint32_t entries,
                        const uint8_t *time, size_t time_len, const uint8_t *bytes, size_t bytes_len, uint8_t *book, uint8_t *reply, size_t reply_len,
                        uint8_t *note, size_t note_len);
+uint64_t bench_acknowledge(const uint8_t *ours, size_t n, const uint8_t *theirs, size_t k, uint32_t fills, uint32_t orders, uint32_t entries, uint8_t *book,
+                           uint32_t upto, uint8_t *note, size_t note_len);
+uint64_t bench_page(uint32_t fills, uint32_t orders, uint32_t entries, const uint8_t *book, struct OrderRow *rows, size_t rows_len);
 size_t bench_restart(uint8_t *book, const uint8_t *notes, size_t notes_len);
 size_t bench_listing(const uint8_t *notes, size_t notes_len, uint8_t *book, uint8_t *out, size_t out_len);
 size_t bench_find(const uint8_t *bytes, size_t bytes_len);
@@ -41,7 +50,7 @@ enum Admitted { NEW = 4 };
 const int FILLS = 512;
 const int ORDERS = 128;
 const int ENTRIES = 256;
-const size_t SLOT = 94;
+const size_t SLOT = 94, ROW = 12;
 const size_t TAGS = 35;
 
 static const uint8_t *bytes_of(const string &s) { return reinterpret_cast<const uint8_t *>(s.data()); }
@@ -110,7 +119,7 @@ struct Receiver {
     vector<uint8_t> book, reply, note;
     int fills, orders, entries;
 
-    Receiver() : book((FILLS + ENTRIES) * SLOT), reply(512), note(102), fills(0), orders(0), entries(0) {}
+    Receiver() : book((FILLS + ENTRIES) * SLOT + ORDERS * ROW), reply(512), note(102), fills(0), orders(0), entries(0) {}
 
     // the call changes the lent memory alone, so that it can be made over and over: a fill is written behind the last one each time
     uint64_t message(const string &m, int e) {
@@ -202,7 +211,8 @@ struct Work {
     string name;
     std::function<void()> ours, peer;
     double bar;
-    Spread times, peer_times, ratios;
+    std::function<void()> besides;  // what ours does that is no work of the receiver's: timed by itself, and taken off
+    Spread times, peer_times, ratios, besides_times, rest;
 };
 
 // the peer: a message from the bytes, and one field read
@@ -227,6 +237,7 @@ static void run(vector<Work> &works, int rounds, double seconds) {
             if (w.peer && round % 2 == 0) peer = timed(w.peer, seconds);
             w.times.add(ours);
             if (w.peer) w.peer_times.add(peer), w.ratios.add(ours / peer);
+            if (w.besides) w.besides_times.add(timed(w.besides, seconds)), w.rest.add(ours - w.besides_times.all.back());
         }
 }
 
@@ -252,7 +263,11 @@ static void print_ratios(const vector<Work> &works) {
 }
 
 static void print_times(const vector<Work> &works) {
-    for (const Work &w : works) printf("%-*s  %s\n", width_of(works), w.name.c_str(), w.times.text().c_str());
+    for (const Work &w : works) {
+        printf("%-*s  %s", width_of(works), w.name.c_str(), (w.besides ? w.rest : w.times).text().c_str());
+        if (w.besides) printf(", which is %s with the book laid anew less %s for that alone", w.times.text().c_str(), w.besides_times.text().c_str());
+        printf("\n");
+    }
 }
 
 // how the time grows from each size to the next, and what each one that was added costs
@@ -325,11 +340,41 @@ struct Bench {
         return [list]() { list(); };
     }
 
+    // the page of 128 orders: each row has its order's name
+    std::function<void()> paged() {
+        auto rows = std::make_shared<vector<OrderRow>>(ORDERS);
+        auto page = [this, rows]() { return bench_page(FILLS, ORDERS, 0, full.book.data(), rows->data(), rows->size()); };
+        memset(rows->data(), 238, ORDERS * sizeof(OrderRow));
+        if (sizeof(OrderRow) != 36 || page() != ((uint64_t)ORDERS << 32 | FILLS)) give_up("the page does not show 128 orders, and a contract for each fill");
+        uint64_t sum = 0;
+        for (int i = 0; i < ORDERS; i++) {
+            const string name = identifier("ORD-20261113", i);
+            if ((*rows)[i].id[0] != name.size() || memcmp((*rows)[i].id + 1, name.data(), name.size()) != 0) give_up("row " + std::to_string(i) + " of the page");
+            sum += (*rows)[i].waiting;
+        }
+        if (sum != FILLS) give_up("the rows of the page do not add up to the day's sum");
+        return [page]() { page(); };
+    }
+
+    // All fills of the day acknowledged at once. The call may change the lent book, and so each call is given the day's book again.
+    Work acknowledged() {
+        auto own = std::make_shared<Receiver>(full);
+        auto lay = [this, own]() { memcpy(own->book.data(), full.book.data(), full.book.size()); };
+        auto ack = [own]() {
+            return bench_acknowledge(OURS, 4, THEIRS, 4, FILLS, ORDERS, 0, own->book.data(), FILLS, own->note.data(), own->note.size());
+        };
+        const uint8_t note[5] = {'K', 0, 0, FILLS >> 8, FILLS & 255};
+        if (ack() != sizeof note || memcmp(own->note.data(), note, sizeof note) != 0) give_up("the fills are not acknowledged");
+        return {"(k) acknowledge of 512 fills at once", [lay, ack]() { lay(), ack(); }, nullptr, 0, lay};
+    }
+
     vector<Work> starts() {
         return {
             {"(g) restart, 512 fills, 52,224 bytes", restart(notes)},
             {"(g) restart, 7,281 S notes, 65,529 bytes", restart(leaves(7281))},
             {"(h) listing of 512 fills", listed(notes)},
+            {"(j) page of 128 orders", paged()},
+            acknowledged(),
         };
     }
 
@@ -398,7 +443,7 @@ struct Bench {
 static int counted(const vector<string> &words) {
     const vector<Work> works = Bench(1, 0).both();
     if (words[0] == "--works") {
-        for (const Work &w : works) printf("%s\n", w.name.c_str());
+        for (const Work &w : works) printf("%s%s\n", w.name.c_str(), w.besides ? ", and the book laid anew" : "");
         return 0;
     }
     size_t work = words.size() == 3 ? strtoul(words[1].c_str(), nullptr, 10) : works.size();

@@ -16,9 +16,9 @@ use Rattle.session.specs.declared.Verdict.{Verdict}
 use Rattle.tally.specs.declared.Tally.{Tally}
 use Rattle.receiver.specs.State.{State, Did}
 use Rattle.receiver.specs.Receiver.{What, Lent, does, call}
-use Rattle.receiver.specs.Steps.{Entered, Taken}
+use Rattle.receiver.specs.Steps.{Entered, Filed, Taken}
 use Rattle.receiver.specs.declared.Told.{Told}
-use Rattle.bench.specs.Timed.{wordOf, Timed, scanNumber, Indexed}
+use Rattle.bench.specs.Timed.{wordOf, Timed, TimedFiled, scanNumber, Indexed}
 
 -- what a call does is the same whatever the tally was
 pub heard-of : (setup : Setup) (st : State) (b : Lent) (t : Tally) (w : What) {x : Told} {t′ : Tally} {book book′ reply reply′ note note′ : List ℕ}
@@ -29,6 +29,9 @@ heard-of setup st b t w k = k .entered
 pub timed-call : {d : Did} {t : Told} {r : ℕ} {book book′ reply reply′ note note′ : List ℕ} → Entered d t book book′ reply reply′ note note′ → r ≡ wordOf t
     → Timed d r book book′ reply reply′ note note′
 timed-call k e = record { told = e ∙ ap wordOf (k .written .told); booked = k .booked; replied = k .written .replied; noted = k .written .noted }
+
+pub timed-filed : {d : Did} {t : Told} {r : ℕ} {book book′ note note′ : List ℕ} → Filed d t book book′ note note′ → r ≡ wordOf t → TimedFiled d r book book′ note note′
+timed-filed k e = record { told = e ∙ ap wordOf (k .told); booked = k .booked; noted = k .noted }
 
 -- a session judges a body by its index as it judges the pieces
 pub judged-body : {setup setup′ : Setup} {s s′ : Session} (body : List ℕ) {scan : Scan} {index : List ℕ} {fs : Facts} {v : Verdict} → setup ≡ setup′ → s ≡ s′

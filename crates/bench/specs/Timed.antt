@@ -1,9 +1,9 @@
 -- What is timed: a receiver that is on, given by its numbers, and what a caller in C is told of a call, as numbers.
 use Prim.Native.Nat.{ℕ, _+_, _*_, _%_}
 use mathlib.Core.Path.{_≡_}
-use mathlib.Core.List.{List}
+use mathlib.Core.List.{List, _++_}
 use mathlib.Core.Option.{Option, none, some}
-use lib.ListN.{length}
+use lib.ListN.{length, drop}
 use Rattle.answer.specs.declared.Setup.{Setup}
 use Rattle.answer.specs.declared.Phase.the-variants.{In}
 use Rattle.answer.specs.Numbers.{outcomeNumber, counted}
@@ -19,8 +19,13 @@ use Rattle.session.specs.declared.Verdict.the-variants.{Settled, Report, Correc
 use Rattle.book.specs.declared.Load.{Load}
 use Rattle.book.specs.declared.Admitted.{Admitted}
 use Rattle.book.specs.declared.Admitted.the-variants as admitted
-use Rattle.receiver.specs.Receiver.{does, Message}
-use Rattle.receiver.specs.Steps.{lentTo}
+use Rattle.queue.specs.declared.Marks.{Marks}
+use Rattle.page.specs.Page.{dueOf, pageOf, toldOf as pageToldOf}
+use Rattle.page.specs.declared.OrderRow.{OrderRow}
+use Rattle.page.specs.declared.Paged.{Paged}
+use Rattle.page.specs.declared.Paged.the-variants as paged
+use Rattle.receiver.specs.Receiver.{does, Message, Acknowledge}
+use Rattle.receiver.specs.Steps.{lentTo, lentLine}
 use Rattle.receiver.specs.State.{Did, seen, toldOf, bookAfter, replyAfter, noteAfter}
 use Rattle.receiver.specs.declared.State.{State as Stored}
 use Rattle.receiver.specs.declared.Told.{Told}
@@ -34,11 +39,11 @@ agreed ours n theirs k = record { ours = record { bytes = ours; len = n }; their
 abbrev pub loadOf : ℕ → ℕ → ℕ → Load
 loadOf fills orders entries = record { fills = fills; orders = orders; entries = entries }
 
--- phase 2, E as given, nothing written yet; so many fills of so many orders, and entries, none acknowledged and none offered
-abbrev pub online : ℕ → Load → Stored
-online e load = record {
+-- phase 2, E as given, nothing written yet; so many fills of one contract each, of so many orders, and entries, none acknowledged and so many offered
+abbrev pub online : ℕ → Load → ℕ → Stored
+online e load offered = record {
   session = record { phase = In; e = e; o = 1; asked = 0 };
-  marks = record { last = counted (load .fills) (load .entries); load = load; acked = 0; offered = 0 };
+  marks = record { last = counted (load .fills) (load .entries); load = load; acked = 0; offered = offered; day = load .fills };
 }
 
 -- the number of what became of a framed message; 0 for every other answer
@@ -64,6 +69,25 @@ pub record Timed (d : Did) (r : ℕ) (book book′ reply reply′ note note′ :
 abbrev pub TimedMessage : Setup → Stored → List ℕ → List ℕ → ℕ → List ℕ → List ℕ → List ℕ → List ℕ → List ℕ → List ℕ → Type 0
 TimedMessage setup st time bytes r book book′ reply reply′ note note′ =
     Timed (does setup (seen st book) (lentTo (length reply) (length note)) (Message time bytes)) r book book′ reply reply′ note note′
+
+-- an acknowledgement up to n: what it is told of it, and what it leaves in the book and the note
+pub record TimedFiled (d : Did) (r : ℕ) (book book′ note note′ : List ℕ) : Type 0 where
+  pub told : r ≡ wordOf (toldOf d)
+  pub booked : book′ ≡ bookAfter book d
+  pub noted : note′ ≡ noteAfter note d
+
+abbrev pub TimedAcknowledge : Setup → Stored → ℕ → ℕ → List ℕ → List ℕ → List ℕ → List ℕ → Type 0
+TimedAcknowledge setup st n r book book′ note note′ = TimedFiled (does setup (seen st book) (lentLine 0 (length note) 0) (Acknowledge n)) r book book′ note note′
+
+-- what a page answers: the orders above the low 32 bits, and the day's sum in these; 0 where it is refused
+abbrev pub pageWord : Paged → ℕ
+pageWord (paged.Refused why) = 0
+pageWord (paged.Shown n day) = n * 4294967296 + day
+
+-- the totals page: its word, and the rows after it
+abbrev pub TimedPage : Marks → List ℕ → List OrderRow → ℕ → List OrderRow → Type 0
+TimedPage marks book rows r rows′ =
+    (r ≡ pageWord (pageToldOf marks (length rows))) × (rows′ ≡ pageOf marks book (dueOf marks (length rows)) ++ drop (dueOf marks (length rows)) rows)
 
 -- the length of the message at the front, 0 where there is none
 abbrev pub lengthOf : Found → ℕ

@@ -1,5 +1,5 @@
-// What bench/run times, for a program in C to call: the message call of a receiver that is on, a restart, the listing, and the stages of a message call that
-// can be timed by themselves. The numbers that C is told are enough to see that the work was done.
+// What bench/run times, for a program in C to call: the message call of a receiver that is on, an acknowledgement, the totals page, a restart, the listing, and the
+// stages of a message call that can be timed by themselves. The numbers that C is told are enough to see that the work was done.
 use answer::Id;
 use answer::Phase;
 use answer::Setup;
@@ -11,6 +11,8 @@ use field::Index;
 use field::NO_INDEX;
 use field::Scan;
 use frame::Found;
+use page::OrderRow;
+use page::Paged;
 use queue::Marks;
 use receiver::Answer;
 use receiver::State;
@@ -22,13 +24,14 @@ use tally::Tally;
 ghost use mathlib.Core.Path.{_≡_};
 ghost use Rattle.field.specs.Pieces.{piecesOf};
 ghost use Rattle.session.specs.Judging.{judge};
-ghost use Rattle.book.specs.Memory.{slotsIn};
+ghost use Rattle.book.specs.Memory.{slotsIn, rowsIn};
 ghost use Rattle.book.specs.Admitting.{noLoad, admitOf};
 ghost use Rattle.frame.specs.Finding.{foundIn};
 ghost use Rattle.restart.specs.Restart.{restart, told, wholeIn, bookAfter};
 ghost use Rattle.listing.specs.Listing.{Lists};
 ghost use Rattle.receiver.specs.Steps.{Heard};
-ghost use Rattle.bench.specs.Timed.{agreed, loadOf, online, becameNumber, wordOf, TimedMessage, lengthOf, Indexed, verdictNumber, admittedNumber};
+ghost use Rattle.bench.specs.Timed.{agreed, loadOf, online, becameNumber, wordOf, TimedMessage, TimedAcknowledge, pageWord, TimedPage};
+ghost use Rattle.bench.specs.Timed.{lengthOf, Indexed, verdictNumber, admittedNumber};
 
 // The number of what became of a framed message, 0 for every other answer.
 fn became_number(answer: Answer) -> u32
@@ -76,8 +79,8 @@ fn agreed(ours: [u8; 16], n: usize, theirs: [u8; 16], k: usize) -> Setup
     }
 }
 
-fn online(e: u32, load: Load) -> State
-    ensures { λ r. ⌜ r ≡ online e load ⌝ }
+fn online(e: u32, load: Load, offered: u32) -> State
+    ensures { λ r. ⌜ r ≡ online e load offered ⌝ }
 {
     State {
         session: Session {
@@ -90,9 +93,23 @@ fn online(e: u32, load: Load) -> State
             last: answer::count_on(load.fills, load.entries),
             load,
             acked: 0,
-            offered: 0,
+            offered,
+            day: load.fills,
         },
     }
+}
+
+// The marks of such a receiver, with nothing offered.
+fn marks_of(fills: u32, orders: u32, entries: u32) -> Marks
+    ensures { λ r. ⌜ r ≡ online 1 (loadOf fills orders entries) 0 .marks ⌝ }
+{
+    let load = Load {
+        fills,
+        orders,
+        entries,
+    };
+    let st = online(1, load, 0);
+    st.marks
 }
 
 // The message call, lent a tally of our own.
@@ -133,7 +150,7 @@ pub extern "C" fn bench_message(
     note: &mut [u8],
 ) -> u64
     ensures { λ r. ⌜
-        TimedMessage (agreed (now (ours .entry)) n (now (theirs .entry)) k) (online e (loadOf fills orders entries)) (now (time .entry)) (now (bytes .entry)) r
+        TimedMessage (agreed (now (ours .entry)) n (now (theirs .entry)) k) (online e (loadOf fills orders entries) 0) (now (time .entry)) (now (bytes .entry)) r
         (now (book .entry)) (now (book .exit)) (now (reply .entry)) (now (reply .exit)) (now (note .entry)) (now (note .exit))
         ⌝ }
 {
@@ -146,6 +163,7 @@ pub extern "C" fn bench_message(
                 orders,
                 entries,
             },
+            0,
         ),
         Tally::new(),
         time,
@@ -155,6 +173,60 @@ pub extern "C" fn bench_message(
         note,
     );
     word_of(told)
+}
+
+// An acknowledgement of all fills and entries up to a number, where so many are offered and none is acknowledged.
+#[no_mangle]
+pub extern "C" fn bench_acknowledge(
+    ours: &[u8; 16],
+    n: usize,
+    theirs: &[u8; 16],
+    k: usize,
+    fills: u32,
+    orders: u32,
+    entries: u32,
+    book: &mut [u8; BOOK],
+    upto: u32,
+    note: &mut [u8],
+) -> u64
+    ensures { λ r. ⌜
+        TimedAcknowledge (agreed (now (ours .entry)) n (now (theirs .entry)) k) (online 1 (loadOf fills orders entries) upto) upto r
+        (now (book .entry)) (now (book .exit)) (now (note .entry)) (now (note .exit))
+        ⌝ }
+{
+    let load = Load {
+        fills,
+        orders,
+        entries,
+    };
+    let st = online(1, load, upto);
+    word_of(receiver::acknowledge(agreed(*ours, n, *theirs, k), st, book, upto, note))
+}
+
+// What a page answers, in one word: the orders above the low 32 bits, and the day's sum in these; 0 where it is refused.
+fn page_word(answer: Paged) -> u64
+    ensures { λ r. ⌜ r ≡ pageWord answer ⌝ }
+{
+    match answer {
+        Paged::Refused(_) => 0,
+        Paged::Shown(n, day) => n as u64 * 4294967296 + day as u64,
+    }
+}
+
+// The totals page, into rows that C lends.
+#[no_mangle]
+pub extern "C" fn bench_page(
+    fills: u32,
+    orders: u32,
+    entries: u32,
+    book: &[u8; BOOK],
+    rows: &mut [OrderRow],
+) -> u64
+    ensures { λ r. ⌜ TimedPage (online 1 (loadOf fills orders entries) 0 .marks) (now (book .entry)) (now (rows .entry)) r (now (rows .exit)) ⌝ }
+{
+    let marks = marks_of(fills, orders, entries);
+    let answer = page::page(marks, book, rows);
+    page_word(answer)
 }
 
 // A restart into the lent book.
@@ -210,10 +282,10 @@ pub extern "C" fn bench_judge(
     e: u32,
     body: &[u8],
 ) -> u32
-    ensures { λ r. ⌜ r ≡ verdictNumber (judge (agreed (now (ours .entry)) n (now (theirs .entry)) k) (online e noLoad .session) (piecesOf (now (body .entry)))) ⌝ }
+    ensures { λ r. ⌜ r ≡ verdictNumber (judge (agreed (now (ours .entry)) n (now (theirs .entry)) k) (online e noLoad 0 .session) (piecesOf (now (body .entry)))) ⌝ }
 {
     let setup = agreed(*ours, n, *theirs, k);
-    let st = online(e, NO_LOAD);
+    let st = online(e, NO_LOAD, 0);
     let session = st.session;
     let mut index = NO_INDEX;
     let scan = field::index_into(body, &mut index);
@@ -238,7 +310,7 @@ pub extern "C" fn bench_admit(
     entries: u32,
     slot: &[u8],
 ) -> u8
-    ensures { λ r. ⌜ r ≡ admittedNumber (admitOf (slotsIn last (now (book .entry))) (loadOf fills orders entries) (now (slot .entry))) ⌝ }
+    ensures { λ r. ⌜ r ≡ admittedNumber (admitOf (slotsIn last (now (book .entry))) (rowsIn orders (now (book .entry))) (loadOf fills orders entries) (now (slot .entry))) ⌝ }
 {
     let load = Load {
         fills,

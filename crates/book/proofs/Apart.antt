@@ -2,25 +2,30 @@
 -- (The day's orders and fills: Orders' orders-still and Counts' fills-still.)
 --     find-apart, last-apart, sum-apart, count-apart     a slot more that does not pass
 --     exec-apart, order-apart, key-apart     no fill has the ExecID or the order of a fill, no other slot the key of an entry
---     find-exec-apart, find-order-apart, sum-order-apart, known-apart, place-fill-apart, fill-room-apart, orders-with-apart, carried-apart, step-apart
---     of a fill
+--     find-exec-apart, find-order-apart, sum-order-apart, place-fill-apart, booked-apart, known-apart, first-apart, step-apart     of a fill
 --     find-key-apart, place-entry-apart, entries-apart     of an entry
-use mathlib.Core.Path.{_≡_, refl, ap, ap₂, _∙_}
+use mathlib.Core.Path.{_≡_, refl, sym, ap, ap₂, _∙_}
+use mathlib.Core.Logic.{⊎-elim}
 use mathlib.Core.List.{List, [], _∷_, _++_}
 use mathlib.Core.Option.{Option, none, some}
-use mathlib.Core.Bool.{Bool, false, cond, not, _&&_, _||_}
+use mathlib.Core.Bool.{Bool, false, cond, not}
 use Prim.Native.Nat.{ℕ, _+_}
 use native.Mathlib.Nat.{add-zero}
-use lib.Dec.{ltb, eqb}
+use lib.ListN.{length}
 use Rattle.octet.specs.Bytes.{same}
 use Rattle.octet.specs.Maybe.{find, findLast, orElse, isNone}
-use Rattle.octet.proofs.Cases.{and-no-left, cond-false, orElse-none, find-append, find-later, last-append}
-use Rattle.fill.specs.Slot.{Slot, isFill, isEntry, execOf, orderOf, sharesOf, cumOf}
+use Rattle.octet.proofs.Cases.{and-no-left, cond-false, orElse-none, le-or-lt, find-append, find-later, find-passes, last-append}
+use Rattle.fill.specs.Slot.{Slot, isFill, isEntry, execOf, orderOf, sharesOf}
 use Rattle.fill.specs.Entry.{keyOf}
-use Rattle.book.specs.Place.{sameExec, sameOrder, sumWhere, byOrder, byExec, placeFill, knownOrder, ordersWith, fillRoom, carried, inStep, mostFills, mostOrders}
+use Rattle.book.specs.Place.{sameExec, sameOrder, sumWhere, byExec, placeFill, steps}
+use Rattle.book.specs.Rows.{Row, firstIn, isRowOf, rowFor, headBy, bookedBy, firstFor, bookedFor, isKnown}
+use Rattle.book.specs.Admitting.{inStep}
 use Rattle.book.specs.Entries.{sameKey, byKey, placeEntry}
 use Rattle.book.specs.Orders.{countWhere, entriesOf}
 use Rattle.book.proofs.Counts.{sum-append, count-end}
+use Rattle.book.proofs.ByKind.{find-alike}
+use Rattle.book.proofs.Finds.{order-empty}
+use Rattle.book.proofs.Rowing.{numbered-more, numbered-past, numbered-end, numbered-there}
 
 -- ---- a slot more that does not pass
 module _ (p : Slot → Bool) (ss : List Slot) (s : Slot) (h : p s ≡ false) where
@@ -57,33 +62,48 @@ module _ (e : Slot) (h : isFill e ≡ false) where
     pub sum-order-apart : sumWhere (sameOrder f) (ss ++ (e ∷ [])) ≡ sumWhere (sameOrder f) ss
     sum-order-apart = sum-apart (sameOrder f) ss e (order-apart f)
 
-    pub known-apart : knownOrder (ss ++ (e ∷ [])) f ≡ knownOrder ss f
-    unfolding knownOrder
-    known-apart = ap (λ (o : Option Slot). not (isNone o)) find-order-apart
-
-    exec-by-apart : (o : Option Slot) → byExec (ss ++ (e ∷ [])) f o ≡ byExec ss f o
-    unfolding byExec
-    exec-by-apart none = ap (byOrder f) find-order-apart
-    exec-by-apart (some k) = refl
-
-    pub place-fill-apart : placeFill (ss ++ (e ∷ [])) f ≡ placeFill ss f
+    pub place-fill-apart : (known : Option Slot) → placeFill (ss ++ (e ∷ [])) known f ≡ placeFill ss known f
     unfolding placeFill
-    place-fill-apart = exec-by-apart (findLast (sameExec f) (ss ++ (e ∷ []))) ∙ ap (byExec ss f) find-exec-apart
+    place-fill-apart known = ap (byExec f known) find-exec-apart
 
-    pub fill-room-apart : (fills orders : ℕ) → fillRoom (ss ++ (e ∷ [])) fills orders f ≡ fillRoom ss fills orders f
-    unfolding fillRoom
-    fill-room-apart fills orders = ap (λ (b : Bool). ltb fills mostFills && (b || ltb orders mostOrders)) known-apart
+    -- no row is another's for it
+    row-apart : (r : Row) → isRowOf (ss ++ (e ∷ [])) f r ≡ isRowOf ss f r
+    row-apart r =
+        ⊎-elim
+        (λ h. ap (sameOrder f) (numbered-more (firstIn r) ss e h))
+        (λ h. ⊎-elim
+        (λ here. ap (sameOrder f) here ∙ order-apart f ∙ sym (ap (sameOrder f) (numbered-past (firstIn r) ss h) ∙ order-empty f))
+        (λ none-there. ap (sameOrder f) (none-there ∙ sym (numbered-past (firstIn r) ss h)))
+        (numbered-end (firstIn r) ss e h))
+        (le-or-lt (firstIn r) (length ss))
 
-    pub orders-with-apart : (orders : ℕ) → ordersWith (ss ++ (e ∷ [])) orders f ≡ ordersWith ss orders f
-    unfolding ordersWith
-    orders-with-apart orders = ap (λ (b : Bool). cond b orders (orders + 1)) known-apart
+    module _ (rows : List Row) where
+      rows-apart : rowFor (ss ++ (e ∷ [])) rows f ≡ rowFor ss rows f
+      unfolding rowFor
+      rows-apart = find-alike (isRowOf (ss ++ (e ∷ [])) f) (isRowOf ss f) row-apart rows
 
-    pub carried-apart : carried f (find (sameOrder f) (ss ++ (e ∷ []))) ≡ carried f (find (sameOrder f) ss)
-    carried-apart = ap (carried f) find-order-apart
+      pub booked-apart : bookedFor (ss ++ (e ∷ [])) rows f ≡ bookedFor ss rows f
+      unfolding bookedFor
+      booked-apart = ap bookedBy rows-apart
 
-    pub step-apart : inStep (ss ++ (e ∷ [])) f ≡ inStep ss f
-    unfolding inStep
-    step-apart = ap₂ (λ (a b : ℕ). eqb (cumOf f) (a + (b + sharesOf f))) carried-apart sum-order-apart
+      pub known-apart : isKnown (ss ++ (e ∷ [])) rows f ≡ isKnown ss rows f
+      unfolding isKnown
+      known-apart = ap (λ (o : Option Row). not (isNone o)) rows-apart
+
+      pub first-apart : firstFor (ss ++ (e ∷ [])) rows f ≡ firstFor ss rows f
+      unfolding firstFor rowFor
+      first-apart = by (find (isRowOf ss f) rows) refl
+        where
+          by : (o : Option Row) → find (isRowOf ss f) rows ≡ o → headBy (ss ++ (e ∷ [])) (find (isRowOf (ss ++ (e ∷ [])) f) rows) ≡ headBy ss (find (isRowOf ss f) rows)
+          by none g = ap (headBy (ss ++ (e ∷ []))) (rows-apart ∙ g) ∙ sym (ap (headBy ss) g)
+          by (some r) g =
+              ap (headBy (ss ++ (e ∷ []))) (rows-apart ∙ g)
+              ∙ ap some (numbered-more (firstIn r) ss e (numbered-there f (firstIn r) ss (find-passes (isRowOf ss f) rows r g)))
+              ∙ sym (ap (headBy ss) g)
+
+      pub step-apart : inStep (ss ++ (e ∷ [])) rows f ≡ inStep ss rows f
+      unfolding inStep
+      step-apart = ap₂ (λ (o : Option Slot) (n : ℕ). steps o n f) first-apart booked-apart
 
 -- ---- what is no entry, as a fill, is nothing to an entry
 module _ (f : Slot) (h : isEntry f ≡ false) where

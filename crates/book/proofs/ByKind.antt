@@ -20,6 +20,7 @@ use Rattle.answer.specs.Numbers.{fault, wrongValue}
 use Rattle.answer.specs.declared.Fault.{Fault}
 use Rattle.fill.specs.Slot.{Slot, isFill, isEntry, markOf, fillMark, entryMark}
 use Rattle.book.specs.Place.{sameExec, sameContents, byExec, placeFill, isNew, fillRoom}
+use Rattle.book.specs.Rows.{Row, firstFor, isKnown}
 use Rattle.book.specs.Entries.{sameKey, byKey, placeEntry, entryRoom}
 use Rattle.book.specs.Memory.{mostSlots}
 use Rattle.book.specs.Admitting.{twins, place, hasRoom, withEntry, withFill, loadWith}
@@ -38,18 +39,19 @@ module _ (s : Slot) {b : Bool} (h : isEntry s ≡ b) where
   unfolding twins
   twins-as t = ap (λ (x : Bool). cond x (sameKey s t) (sameExec s t)) h
 
-  module _ (ss : List Slot) where
-    pub place-as : place ss s ≡ cond b (placeEntry ss s) (placeFill ss s)
+  module _ (ss : List Slot) (rows : List Row) where
+    pub place-as : place ss rows s ≡ cond b (placeEntry ss s) (placeFill ss (firstFor ss rows s) s)
     unfolding place
-    place-as = ap (λ (x : Bool). cond x (placeEntry ss s) (placeFill ss s)) h
+    place-as = ap (λ (x : Bool). cond x (placeEntry ss s) (placeFill ss (firstFor ss rows s) s)) h
 
-    pub room-as : (load : Load) → hasRoom ss load s ≡ ltb (length ss) mostSlots && cond b (entryRoom (load .entries)) (fillRoom ss (load .fills) (load .orders) s)
+    pub room-as : (load : Load)
+        → hasRoom ss rows load s ≡ ltb (length ss) mostSlots && cond b (entryRoom (load .entries)) (fillRoom (isKnown ss rows s) (load .fills) (load .orders))
     unfolding hasRoom
-    room-as load = ap (λ (x : Bool). ltb (length ss) mostSlots && cond x (entryRoom (load .entries)) (fillRoom ss (load .fills) (load .orders) s)) h
+    room-as load = ap (λ (x : Bool). ltb (length ss) mostSlots && cond x (entryRoom (load .entries)) (fillRoom (isKnown ss rows s) (load .fills) (load .orders))) h
 
-    pub load-as : (load : Load) → loadWith ss load s ≡ cond b (withEntry load) (withFill ss load s)
+    pub load-as : (load : Load) → loadWith ss rows load s ≡ cond b (withEntry load) (withFill (isKnown ss rows s) load s)
     unfolding loadWith
-    load-as load = ap (λ (x : Bool). cond x (withEntry load) (withFill ss load s)) h
+    load-as load = ap (λ (x : Bool). cond x (withEntry load) (withFill (isKnown ss rows s) load s)) h
 
 -- ---- a new slot has no twin
 -- one that was found is already booked, or at odds with what comes
@@ -57,16 +59,16 @@ found-old : (b : Bool) (g : Fault) → isNew (cond b Already (Clash g)) ≡ fals
 found-old true g = refl
 found-old false g = refl
 
-pub new-last : (ss : List Slot) (f : Slot) → isNew (placeFill ss f) ≡ true → findLast (sameExec f) ss ≡ none
+pub new-last : (ss : List Slot) (known : Option Slot) (f : Slot) → isNew (placeFill ss known f) ≡ true → findLast (sameExec f) ss ≡ none
 unfolding placeFill byExec
-new-last ss f h = by (findLast (sameExec f) ss) h
+new-last ss known f h = by (findLast (sameExec f) ss) h
   where
-    by : (o : Option Slot) → isNew (byExec ss f o) ≡ true → o ≡ none
+    by : (o : Option Slot) → isNew (byExec f known o) ≡ true → o ≡ none
     by none e = refl
     by (some k) e = contrary e (found-old (sameContents f k) (fault wrongValue 17))
 
-pub new-exec : (ss : List Slot) (f : Slot) → isNew (placeFill ss f) ≡ true → find (sameExec f) ss ≡ none
-new-exec ss f h = last-none (sameExec f) ss (new-last ss f h)
+pub new-exec : (ss : List Slot) (known : Option Slot) (f : Slot) → isNew (placeFill ss known f) ≡ true → find (sameExec f) ss ≡ none
+new-exec ss known f h = last-none (sameExec f) ss (new-last ss known f h)
 
 pub new-key : (ss : List Slot) (e : Slot) → isNew (placeEntry ss e) ≡ true → find (sameKey e) ss ≡ none
 unfolding placeEntry byKey
@@ -77,15 +79,15 @@ new-key ss e h = by (find (sameKey e) ss) h
     by (some k) n = contrary n (found-old (same e k) (fault wrongValue 20))
 
 -- two tests that say the same find the same
-find-alike : (p q : Slot → Bool) → ((t : Slot) → p t ≡ q t) → (ss : List Slot) → find p ss ≡ find q ss
+pub find-alike : {A : Type 0} (p q : A → Bool) → ((t : A) → p t ≡ q t) → (ss : List A) → find p ss ≡ find q ss
 find-alike p q h [] = refl
 find-alike p q h (s ∷ ss) = rw (h s, find-alike p q h ss)
 
-pub new-alone : (ss : List Slot) (s : Slot) → isNew (place ss s) ≡ true → find (twins s) ss ≡ none
-new-alone ss s n =
+pub new-alone : (ss : List Slot) (rows : List Row) (s : Slot) → isNew (place ss rows s) ≡ true → find (twins s) ss ≡ none
+new-alone ss rows s n =
     ⊎-elim
-    (λ h. find-alike (twins s) (sameKey s) (twins-as s h) ss ∙ new-key ss s (sym (ap isNew (place-as s h ss)) ∙ n))
-    (λ h. find-alike (twins s) (sameExec s) (twins-as s h) ss ∙ new-exec ss s (sym (ap isNew (place-as s h ss)) ∙ n))
+    (λ h. find-alike (twins s) (sameKey s) (twins-as s h) ss ∙ new-key ss s (sym (ap isNew (place-as s h ss rows)) ∙ n))
+    (λ h. find-alike (twins s) (sameExec s) (twins-as s h) ss ∙ new-exec ss (firstFor ss rows s) s (sym (ap isNew (place-as s h ss rows)) ∙ n))
     (bool-case (isEntry s))
 
 -- ---- a load is its counts

@@ -13,8 +13,9 @@ use native.Mathlib.Omega.{arith}
 use lib.ListN.{length, take, drop, take-append-drop}
 use Rattle.octet.proofs.Cases.{of-cond, cond-true, cond-false}
 use Rattle.fill.specs.Slot.{Slot, isFill, isEntry, sharesOf}
-use Rattle.book.specs.Place.{sumWhere}
-use Rattle.book.specs.Orders.{fillsOf, countWhere, entriesOf, loadOf}
+use Rattle.book.specs.Place.{sumWhere, knownOrder, ordersWith}
+use Rattle.book.specs.Rows.{Row, isKnown}
+use Rattle.book.specs.Orders.{ordersOf, fillsOf, countWhere, entriesOf, loadOf}
 use Rattle.book.specs.Admitting.{loadWith}
 use Rattle.book.specs.declared.Load.{Load}
 use Rattle.book.proofs.ByKind.{loads, entry-no-fill, fill-no-entry, load-as}
@@ -60,19 +61,20 @@ module _ (p : Slot → Bool) where
 pub fills-still : (ss : List Slot) (s : Slot) → isFill s ≡ false → fillsOf (ss ++ (s ∷ [])) ≡ fillsOf ss
 fills-still ss s h = count-end isFill ss s ∙ cond-false (isFill s) (fillsOf ss + 1) (fillsOf ss) h
 
-pub load-counted : (ss : List Slot) (load : Load) (s : Slot) → (isFill s ≡ true) ⊎ (isEntry s ≡ true) → load ≡ loadOf ss → loadWith ss load s ≡ loadOf (ss ++ (s ∷ []))
-load-counted ss load s k h =
+pub load-counted : (ss : List Slot) (rows : List Row) (load : Load) (s : Slot) → (isFill s ≡ true) ⊎ (isEntry s ≡ true) → isKnown ss rows s ≡ knownOrder ss s → load ≡ loadOf ss
+    → loadWith ss rows load s ≡ loadOf (ss ++ (s ∷ []))
+load-counted ss rows load s k known h =
     ⊎-elim
     (λ f. (let n = fill-no-entry s f in
     let ef = count-end isFill ss s in
-    let eo = orders-counted ss s f in
+    let eo = ap (λ (b : Bool). ordersWith b (length (ordersOf ss))) known ∙ orders-counted ss s f in
     let ee = count-end isEntry ss s ∙ cond-false (isEntry s) (entriesOf ss + 1) (entriesOf ss) n in
-    ap (λ (l : Load). loadWith ss l s) h ∙ load-as s n ss (loadOf ss) ∙ loads (sym ef) eo (sym ee)))
+    ap (λ (l : Load). loadWith ss rows l s) h ∙ load-as s n ss rows (loadOf ss) ∙ loads (sym ef) eo (sym ee)))
     (λ e. (let n = entry-no-fill s e in
     let ef = fills-still ss s n in
     let eo = ap length (orders-still ss s n) in
     let ee = count-end isEntry ss s ∙ cond-true (isEntry s) (entriesOf ss + 1) (entriesOf ss) e in
-    ap (λ (l : Load). loadWith ss l s) h ∙ load-as s e ss (loadOf ss) ∙ loads (sym ef) (sym eo) (sym ee)))
+    ap (λ (l : Load). loadWith ss rows l s) h ∙ load-as s e ss rows (loadOf ss) ∙ loads (sym ef) (sym eo) (sym ee)))
     k
 
 -- ---- a slot is a fill or an entry

@@ -5,7 +5,7 @@
 --     entry-counted, entry-booking     the counts, and what a booking changes and answers
 use mathlib.Core.Path.{_≡_, refl, sym, ap, _∙_}
 use mathlib.Core.List.{List, []}
-use mathlib.Core.Bool.{Bool, true, false, not, _&&_}
+use mathlib.Core.Bool.{Bool, true, false, cond, not, _&&_}
 use Prim.Native.Nat.{ℕ, _+_, _≤_, _<_, min}
 use native.Mathlib.Omega.{arith}
 use lib.ListN.{length}
@@ -19,16 +19,16 @@ use Rattle.octet.proofs.Places.{word-differs}
 use Rattle.answer.specs.Numbers.{fault, largest}
 use Rattle.fill.specs.Slot.{Slot, isEntry}
 use Rattle.fill.specs.Entry.{keyOf}
-use Rattle.book.specs.Place.{inStep}
+use Rattle.book.specs.Rows.{Row, rowPlace}
 use Rattle.book.specs.Entries.{sameKey, byKey, placeEntry, entryRoom, mostEntries}
 use Rattle.book.specs.Memory.{mostSlots, slotsIn}
-use Rattle.book.specs.Admitting.{place, hasRoom, withEntry, stopped, bookingOf}
+use Rattle.book.specs.Admitting.{place, hasRoom, inStep, withEntry, stopped, bookingOf}
 use Rattle.book.specs.Seeing.{someSlot}
 use Rattle.book.specs.declared.Load.{Load}
 use Rattle.book.specs.declared.Booking.{Booking}
 use Rattle.book.specs.declared.Placed.{Placed}
 use Rattle.book.specs.declared.Placed.the-variants.{Clash, Already, New}
-use Rattle.book.proofs.Slots.{slots-length}
+use Rattle.book.proofs.Regions.{slots-length}
 use Rattle.book.proofs.Finds.{known-none, known-some}
 use Rattle.book.proofs.ByKind.{place-as, room-as, load-as}
 
@@ -80,17 +80,19 @@ entry-counted load lf lo le =
 
 -- ---- what becomes of it
 module _ (e : Slot) (h : isEntry e ≡ true) where
-  pub entry-placed : (ss : List Slot) (twin : Slot) (r : Placed) → someSlot twin ≡ find (sameKey e) ss → r ≡ byKey e (someSlot twin) → r ≡ place ss e
+  pub entry-placed : (ss : List Slot) (rows : List Row) (twin : Slot) (r : Placed) → someSlot twin ≡ find (sameKey e) ss → r ≡ byKey e (someSlot twin) → r ≡ place ss rows e
   unfolding placeEntry
-  entry-placed ss twin r et er = er ∙ ap (byKey e) et ∙ sym (place-as e h ss)
+  entry-placed ss rows twin r et er = er ∙ ap (byKey e) et ∙ sym (place-as e h ss rows)
 
-  pub entry-room : (last : ℕ) (m : List ℕ) (load : Load) → ltb last mostSlots && entryRoom (load .entries) ≡ hasRoom (slotsIn last m) load e
-  entry-room last m load =
-      ap (λ (n : ℕ). ltb n mostSlots && entryRoom (load .entries)) (sym (slots-length last m)) ∙ sym (room-as e h (slotsIn last m) load)
+  pub entry-room : (last : ℕ) (m : List ℕ) (rows : List Row) (load : Load) → ltb last mostSlots && entryRoom (load .entries) ≡ hasRoom (slotsIn last m) rows load e
+  entry-room last m rows load =
+      ap (λ (n : ℕ). ltb n mostSlots && entryRoom (load .entries)) (sym (slots-length last m)) ∙ sym (room-as e h (slotsIn last m) rows load)
 
-  pub entry-booking : (ss : List Slot) (load l : Load) → l ≡ stopped (withEntry load) → _≡_ {A = Booking} (record { load = l; stepped = false }) (bookingOf ss load e)
+  pub entry-booking : (ss : List Slot) (rows : List Row) (load l : Load) → l ≡ stopped (withEntry load)
+      → _≡_ {A = Booking} (record { load = l; row = 0; stepped = false }) (bookingOf ss rows load e)
   unfolding bookingOf
-  entry-booking ss load l el =
-      let a = ap stopped (load-as e h ss load) in
-      let b = ap (λ (t : Bool). not t && inStep ss e) h in
+  entry-booking ss rows load l el =
+      let a = ap stopped (load-as e h ss rows load) in
+      let b = ap (λ (t : Bool). not t && inStep ss rows e) h in
+      let c = ap (λ (t : Bool). cond t 0 (rowPlace ss rows e)) h in
       cc

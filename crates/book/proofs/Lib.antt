@@ -1,6 +1,10 @@
-pub mod Slots
+pub mod Cells
+pub mod Regions
 pub mod Words
 pub mod Finds
+pub mod Rowing
+pub mod Written
+pub mod Stored
 pub mod ByKind
 pub mod Placing
 pub mod Keyed

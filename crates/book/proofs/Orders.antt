@@ -1,5 +1,7 @@
 -- The day's orders as a list: what the count by value counts.
---     among-known     an order is known exactly where its OrderID is among those of the slots
+--     among-end, among-with     an OrderID is among some with one more
+--     among-after, among-has     it is among those of the slots exactly where a fill of the order is one of them
+--     among-known     so an order is known exactly where its OrderID is among them
 --     orders-more     a fill more: the same list, or its OrderID at the end
 --     orders-counted     so the count that is kept is its length, with one fill more
 --     orders-still     a slot more that is no fill changes nothing
@@ -16,7 +18,7 @@ use Rattle.octet.proofs.Cases.{of-cond, cond-false}
 use Rattle.octet.proofs.Lists.{same-true}
 use Rattle.fill.specs.Slot.{Slot, isFill, orderOf}
 use Rattle.book.specs.Place.{sameOrder, knownOrder, ordersWith}
-use Rattle.book.specs.Orders.{isAmong, withOrder, ordersAfter, ordersOf}
+use Rattle.book.specs.Orders.{isAmong, withOrder, ordersAfter, ordersOf, ofOrder}
 
 or-assoc : (a b c : Bool) → (a || b) || c ≡ a || (b || c)
 or-assoc true b c = refl
@@ -31,12 +33,12 @@ or-absorbs true b h = refl
 or-absorbs false true h = h refl
 or-absorbs false false h = refl
 
-among-end : (x : List ℕ) (ids : List (List ℕ)) (y : List ℕ) → isAmong x (ids ++ (y ∷ [])) ≡ isAmong x ids || same x y
+pub among-end : (x : List ℕ) (ids : List (List ℕ)) (y : List ℕ) → isAmong x (ids ++ (y ∷ [])) ≡ isAmong x ids || same x y
 among-end x [] y = or-false (same x y)
 among-end x (i ∷ ids) y = ap (λ (b : Bool). same x i || b) (among-end x ids y) ∙ sym (or-assoc (same x i) (isAmong x ids) (same x y))
 
 -- one slot more: its OrderID, where it is a fill, and those that were there
-among-with : (x : List ℕ) (ids : List (List ℕ)) (s : Slot) → isAmong x (withOrder ids s) ≡ isAmong x ids || (isFill s && same x (orderOf s))
+pub among-with : (x : List ℕ) (ids : List (List ℕ)) (s : Slot) → isAmong x (withOrder ids s) ≡ isAmong x ids || (isFill s && same x (orderOf s))
 unfolding withOrder
 among-with x ids s = by (isFill s) (isAmong (orderOf s) ids) refl
   where
@@ -46,25 +48,32 @@ among-with x ids s = by (isFill s) (isAmong (orderOf s) ids) refl
     by true false e = among-end x ids (orderOf s)
     by true true e = or-absorbs (isAmong x ids) (same x (orderOf s)) (λ h. ap (λ (y : List ℕ). isAmong y ids) (same-true x (orderOf s) h) ∙ e)
 
-known-cons : (s : Slot) (ss : List Slot) (f : Slot) → knownOrder (s ∷ ss) f ≡ (isFill s && same (orderOf f) (orderOf s)) || knownOrder ss f
-unfolding knownOrder sameOrder
-known-cons s ss f = by (isFill s && same (orderOf f) (orderOf s))
+-- whether an order has a fill among the slots
+abbrev hasOrder : List Slot → List ℕ → Bool
+hasOrder ss id = not (isNone (find (ofOrder id) ss))
+
+has-cons : (id : List ℕ) (s : Slot) (ss : List Slot) → hasOrder (s ∷ ss) id ≡ ofOrder id s || hasOrder ss id
+has-cons id s ss = by (ofOrder id s)
   where
-    by : (b : Bool) → not (isNone (cond b (some s) (find (sameOrder f) ss))) ≡ b || not (isNone (find (sameOrder f) ss))
+    by : (b : Bool) → not (isNone (cond b (some s) (find (ofOrder id) ss))) ≡ b || hasOrder ss id
     by true = refl
     by false = refl
 
-among-after : (ids : List (List ℕ)) (ss : List Slot) (f : Slot) → isAmong (orderOf f) (ordersAfter ids ss) ≡ isAmong (orderOf f) ids || knownOrder ss f
-unfolding ordersAfter knownOrder
-among-after ids [] f = sym (or-false (isAmong (orderOf f) ids))
-among-after ids (s ∷ ss) f =
-    among-after (withOrder ids s) ss f
-    ∙ ap (λ (b : Bool). b || knownOrder ss f) (among-with (orderOf f) ids s)
-    ∙ or-assoc (isAmong (orderOf f) ids) (isFill s && same (orderOf f) (orderOf s)) (knownOrder ss f)
-    ∙ ap (λ (b : Bool). isAmong (orderOf f) ids || b) (sym (known-cons s ss f))
+pub among-after : (ids : List (List ℕ)) (ss : List Slot) (id : List ℕ) → isAmong id (ordersAfter ids ss) ≡ isAmong id ids || not (isNone (find (ofOrder id) ss))
+unfolding ordersAfter
+among-after ids [] id = sym (or-false (isAmong id ids))
+among-after ids (s ∷ ss) id =
+    among-after (withOrder ids s) ss id
+    ∙ ap (λ (b : Bool). b || hasOrder ss id) (among-with id ids s)
+    ∙ or-assoc (isAmong id ids) (ofOrder id s) (hasOrder ss id)
+    ∙ ap (λ (b : Bool). isAmong id ids || b) (sym (has-cons id s ss))
+
+pub among-has : (ss : List Slot) (id : List ℕ) → isAmong id (ordersOf ss) ≡ not (isNone (find (ofOrder id) ss))
+among-has ss id = among-after [] ss id
 
 pub among-known : (ss : List Slot) (f : Slot) → isAmong (orderOf f) (ordersOf ss) ≡ knownOrder ss f
-among-known ss f = among-after [] ss f
+unfolding knownOrder sameOrder
+among-known ss f = among-has ss (orderOf f)
 
 -- ---- a slot more
 after-end : (ids : List (List ℕ)) (ss : List Slot) (s : Slot) → ordersAfter ids (ss ++ (s ∷ [])) ≡ withOrder (ordersAfter ids ss) s
@@ -88,8 +97,7 @@ unfolding withOrder
 orders-still ss s h =
     after-end [] ss s ∙ ap (λ (b : Bool). cond (b && not (isAmong (orderOf s) (ordersOf ss))) (ordersOf ss ++ (orderOf s ∷ [])) (ordersOf ss)) h
 
-pub orders-counted : (ss : List Slot) (f : Slot) → isFill f ≡ true → ordersWith ss (length (ordersOf ss)) f ≡ length (ordersOf (ss ++ (f ∷ [])))
-unfolding ordersWith
+pub orders-counted : (ss : List Slot) (f : Slot) → isFill f ≡ true → ordersWith (knownOrder ss f) (length (ordersOf ss)) ≡ length (ordersOf (ss ++ (f ∷ [])))
 orders-counted ss f e = by (knownOrder ss f) ∙ sym (ap length (orders-more ss f e))
   where
     by : (b : Bool) → cond b (length (ordersOf ss)) (length (ordersOf ss) + 1) ≡ length (cond b (ordersOf ss) (ordersOf ss ++ (orderOf f ∷ [])))

@@ -1,4 +1,5 @@
 pub mod Place
+pub mod Rows
 pub mod Entries
 pub mod Memory
 pub mod Admitting

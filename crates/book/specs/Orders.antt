@@ -1,10 +1,13 @@
--- The day's orders, fills and entries, read from the slots themselves: "512 fills, 128 orders", and 256 entries.
+-- The day's orders, fills and entries, read from the slots themselves: "512 fills, 128 orders", and 256 entries; and the order rows and the day's sum as they are to be.
 use Prim.Native.Nat.{ℕ, _+_}
-use mathlib.Core.List.{List, [], _∷_, _++_}
+use mathlib.Core.Path.{_≡_}
+use mathlib.Core.List.{List, [], _∷_, _++_, map}
 use mathlib.Core.Bool.{Bool, false, cond, _&&_, _||_, not}
-use lib.ListN.{length}
+use lib.ListN.{length, drop}
 use Rattle.octet.specs.Bytes.{same}
 use Rattle.fill.specs.Slot.{Slot, isFill, isEntry, orderOf}
+use Rattle.book.specs.Place.{sumWhere}
+use Rattle.book.specs.Rows.{Row, before, rowOf}
 use Rattle.book.specs.declared.Load.{Load}
 
 -- whether an OrderID is among some
@@ -24,6 +27,11 @@ ordersAfter ids (s ∷ ss) = ordersAfter (withOrder ids s) ss
 abbrev pub ordersOf : List Slot → List (List ℕ)
 ordersOf ss = ordersAfter [] ss
 
+-- no OrderID stands twice
+abbrev pub OnceIn : List (List ℕ) → Type 0
+OnceIn [] = Unit
+OnceIn (id ∷ ids) = (isAmong id ids ≡ false) × OnceIn ids
+
 -- how many of the slots are such, and so how many are fills, and entries
 unfoldable pub countWhere : (Slot → Bool) → List Slot → ℕ
 countWhere p [] = 0
@@ -38,3 +46,21 @@ entriesOf ss = countWhere isEntry ss
 -- all three, as the slots have them
 abbrev pub loadOf : List Slot → Load
 loadOf ss = record { fills = fillsOf ss; orders = length (ordersOf ss); entries = entriesOf ss }
+
+-- ---- the order rows, where the slots up to a number are acknowledged
+
+-- a fill of the order with that OrderID
+abbrev pub ofOrder : List ℕ → Slot → Bool
+ofOrder id s = isFill s && same id (orderOf s)
+
+-- the row of an order: the number of its first fill, the LastShares of its fills, and those of its fills that wait
+abbrev pub rowIs : List Slot → ℕ → List ℕ → Row
+rowIs ss acked id = rowOf (before (ofOrder id) ss + 1) (sumWhere (ofOrder id) ss) (sumWhere (ofOrder id) (drop acked ss))
+
+-- one for each order of the day
+abbrev pub rowsOf : List Slot → ℕ → List Row
+rowsOf ss acked = map (rowIs ss acked) (ordersOf ss)
+
+-- the LastShares of all fills that wait
+abbrev pub dayOf : List Slot → ℕ → ℕ
+dayOf ss acked = sumWhere isFill (drop acked ss)

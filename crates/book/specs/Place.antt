@@ -1,5 +1,5 @@
--- What is known of a fill among the day's slots: ExecID, order, room, in step. Over a list of slots of any length. Entries has the same of an entry, and
--- Admitting what is said of any slot.
+-- What is known of a fill among the day's: ExecID, order, room, in step. Rows says how its order is found, Entries has the same of an entry, and Admitting what is
+-- said of any slot.
 use Prim.Native.Nat.{ℕ, _+_, _-_}
 use mathlib.Core.List.{List, [], _∷_}
 use mathlib.Core.Option.{Option, none, some}
@@ -38,14 +38,14 @@ unfoldable pub byOrder : Slot → Option Slot → Placed
 byOrder f none = New
 byOrder f (some k) = cond (sameSymbol f k) (cond (sameSide f k) New (Clash (fault wrongValue 54))) (Clash (fault wrongValue 55))
 
--- "ExecID (17) known today: same .. is already booked ..; anything different is Reject 5 tag 17"
-unfoldable pub byExec : List Slot → Slot → Option Slot → Placed
-byExec ss f none = byOrder f (find (sameOrder f) ss)
-byExec ss f (some k) = cond (sameContents f k) Already (Clash (fault wrongValue 17))
+-- "ExecID (17) known today: same .. is already booked ..; anything different is Reject 5 tag 17". `known` is the first fill of its order
+unfoldable pub byExec : Slot → Option Slot → Option Slot → Placed
+byExec f known none = byOrder f known
+byExec f known (some k) = cond (sameContents f k) Already (Clash (fault wrongValue 17))
 
 -- of the fills with an ExecID the newest counts: in a day there is one at most
-unfoldable pub placeFill : List Slot → Slot → Placed
-placeFill ss f = byExec ss f (findLast (sameExec f) ss)
+unfoldable pub placeFill : List Slot → Option Slot → Slot → Placed
+placeFill ss known f = byExec f known (findLast (sameExec f) ss)
 
 abbrev pub isNew : Placed → Bool
 isNew (Clash f) = false
@@ -60,18 +60,19 @@ mostFills = 512
 abbrev pub mostOrders : ℕ
 mostOrders = 128
 
+-- whether an order has a fill among some
 unfoldable pub knownOrder : List Slot → Slot → Bool
 knownOrder ss f = not (isNone (find (sameOrder f) ss))
 
--- how many fills and how many orders there are with a fill more. They are counted as slots are booked; an order is known by its fills
+-- how many fills and how many orders there are with a fill more. They are counted as slots are booked
 abbrev pub fillsWith : ℕ → Slot → ℕ
 fillsWith fills f = cond (isFill f) (fills + 1) fills
 
-unfoldable pub ordersWith : List Slot → ℕ → Slot → ℕ
-ordersWith ss orders f = cond (knownOrder ss f) orders (orders + 1)
+abbrev pub ordersWith : Bool → ℕ → ℕ
+ordersWith known orders = cond known orders (orders + 1)
 
-unfoldable pub fillRoom : List Slot → ℕ → ℕ → Slot → Bool
-fillRoom ss fills orders f = ltb fills mostFills && (knownOrder ss f || ltb orders mostOrders)
+abbrev pub fillRoom : Bool → ℕ → ℕ → Bool
+fillRoom known fills orders = ltb fills mostFills && (known || ltb orders mostOrders)
 
 -- ---- in step
 
@@ -85,6 +86,6 @@ abbrev pub carried : Slot → Option Slot → ℕ
 carried f none = cumOf f - sharesOf f
 carried f (some k) = cumOf k - sharesOf k
 
--- "The answer says in step when CumQty is carried-in plus booked sum, this fill included"
-unfoldable pub inStep : List Slot → Slot → Bool
-inStep ss f = eqb (cumOf f) (carried f (find (sameOrder f) ss) + (sumWhere (sameOrder f) ss + sharesOf f))
+-- "The answer says in step when CumQty is carried-in plus booked sum, this fill included": by the first fill of its order, and the contracts booked
+abbrev pub steps : Option Slot → ℕ → Slot → Bool
+steps known booked f = eqb (cumOf f) (carried f known + (booked + sharesOf f))

@@ -6,6 +6,7 @@ use super::ENTRIES;
 use super::Load;
 use super::Placed;
 use super::SLOTS;
+use super::SLOTS_SIZE;
 use super::clash;
 use super::glance_at;
 use super::inside;
@@ -18,9 +19,9 @@ ghost use Prim.Native.Nat.{_≤_};
 ghost use lib.ListN.{length};
 ghost use lib.Dec.{ltb};
 ghost use Rattle.octet.specs.Maybe.{find};
-ghost use Rattle.fill.specs.Slot.{isEntry};
+ghost use Rattle.fill.specs.Slot.{slotWidth, isEntry};
 ghost use Rattle.book.specs.Entries.{sameKey, byKey, entryRoom};
-ghost use Rattle.book.specs.Memory.{mostSlots, bookWidth, slotsIn, slotAt};
+ghost use Rattle.book.specs.Memory.{mostSlots, slotsHere, cells, cellAt, slotsIn, slotAt, rowsIn};
 ghost use Rattle.book.specs.Admitting.{withEntry, stopped, admitOf};
 ghost use Rattle.book.specs.Seeing.{someSlot};
 
@@ -35,8 +36,8 @@ fn same_key(slot: &[u8], s: &[u8]) -> bool
 
 // The place of the first of n slots that is an entry with the key of slot; SLOTS where there is none. Keys are told apart at a glance, as IDs are.
 fn find_key(m: &[u8], n: usize, slot: &[u8]) -> usize
-    requires { ⌜ (n ≤ mostSlots) × (length (now m) ≡ bookWidth) ⌝ }
-    ensures { λ r. ⌜ someSlot (slotAt r (now (m .entry))) ≡ find (sameKey (now (slot .entry))) (slotsIn n (now (m .entry))) ⌝ }
+    requires { ⌜ (n ≤ mostSlots) × (length (now m) ≡ slotsHere .wide) ⌝ }
+    ensures { λ r. ⌜ someSlot (cellAt slotWidth r (now (m .entry))) ≡ find (sameKey (now (slot .entry))) (cells slotWidth n (now (m .entry))) ⌝ }
 {
     let g = glance_at(fill::key_of(slot));
     let mut i = 0;
@@ -56,7 +57,8 @@ fn find_key(m: &[u8], n: usize, slot: &[u8]) -> usize
 fn look_for(book: &[u8; BOOK], count: usize, slot: &[u8]) -> usize
     ensures { λ r. ⌜ someSlot (slotAt r (now (book .entry))) ≡ find (sameKey (now (slot .entry))) (slotsIn count (now (book .entry))) ⌝ }
 {
-    find_key(book, inside(count), slot)
+    let all = &book[..];
+    find_key(&all[0..SLOTS_SIZE], inside(count), slot)
 }
 
 // "a known key with other contents is Reject 5 naming ExecTransType's tag". twin is the entry with its key; no bytes where there is none.
@@ -97,7 +99,7 @@ fn with_entry(load: Load) -> Load
 // What becomes of an entry among the day's, by one walk over them.
 pub(crate) fn admit_entry(book: &[u8; BOOK], last: usize, load: Load, slot: &[u8]) -> Admitted
     requires { ⌜ isEntry (now slot) ≡ true ⌝ }
-    ensures { λ r. ⌜ r ≡ admitOf (slotsIn last (now (book .entry))) load (now (slot .entry)) ⌝ }
+    ensures { λ r. ⌜ r ≡ admitOf (slotsIn last (now (book .entry))) (rowsIn (load .orders) (now (book .entry))) load (now (slot .entry)) ⌝ }
 {
     let twin = slot_at(book, look_for(book, last, slot));
     match by_key(slot, twin) {
@@ -109,6 +111,7 @@ pub(crate) fn admit_entry(book: &[u8; BOOK], last: usize, load: Load, slot: &[u8
             }
             Admitted::New(Booking {
                 load: with_entry(load),
+                row: 0,
                 stepped: false,
             })
         }

@@ -1,27 +1,35 @@
-// The day's slots, in memory that the caller lends whole, with their counts by value: what becomes of a fill or an entry among them,
-// by one walk over them, and one slot more.
+// The day's slots and order rows, in memory that the caller lends whole, with their counts by value: what becomes of a fill or an
+// entry among them, and one slot more.
 mod entries; // an entry among the day's
+mod rows; // the order rows: an order found, and its sums brought up to date
 
 ghost use mathlib.Core.Path.{_≡_};
 ghost use Prim.Native.Nat.{_+_, _-_, _*_, _≤_, _<_, min};
 ghost use lib.ListN.{length};
-ghost use lib.Dec.{eqb};
 ghost use Rattle.octet.specs.Bytes.{same};
 ghost use Rattle.octet.specs.Places.{wordAt};
+ghost use Rattle.octet.specs.Maybe.{findLast};
 ghost use Rattle.answer.specs.Numbers.{fault, wrongValue, largest};
 ghost use mathlib.Core.Bool.{false};
-ghost use Rattle.fill.specs.Slot.{slotWidth, isEntry, execOf, orderOf, sharesOf, cumOf};
-ghost use Rattle.book.specs.Place.{sameContents, sameExec, sameOrder, byOrder, fillsWith, carried};
-ghost use Rattle.book.specs.Memory.{mostSlots, bookWidth, slotsIn, slotAt, fitsAfter, appended, holding};
+ghost use mathlib.Core.Option.{none};
+ghost use Rattle.fill.specs.Slot.{slotWidth, isEntry, sharesOf, cumOf};
+ghost use Rattle.book.specs.Place.{sameContents, sameExec, sameOrder, byOrder, byExec, fillsWith, carried, steps};
+ghost use Rattle.book.specs.Memory.{mostSlots, slotsHere, bookWidth, cells, cellAt, slotsIn, slotAt, fitsAfter, appended, rowsIn, holding, entered};
 ghost use Rattle.book.specs.declared.Placed.the-variants.{Clash};
 ghost use Rattle.book.specs.Admitting.{admitOf};
-ghost use Rattle.book.specs.Seeing.{someSlot, Sees, Passes, seenExec, seenOrder, roomFor, ordersFor, PlacedBy};
+ghost use Rattle.book.specs.Seeing.{someSlot, roomFor, ordersFor};
 use answer::Fault;
 use answer::reasons;
 use answer::tags;
 use entries::admit_entry;
 use fill::ID;
 use fill::SLOT;
+pub use rows::day_with;
+use rows::find_row;
+pub use rows::head_of;
+use rows::more_in_row;
+pub use rows::row_in;
+pub use rows::take_off;
 
 // A slot among the day's: at odds with one of them, already booked, or new.
 pub enum Placed {
@@ -44,9 +52,10 @@ pub const NO_LOAD: Load = Load {
     entries: 0,
 };
 
-// What a booking changes and answers: the load then, and whether a fill is in step.
+// What a booking changes and answers: the load then, the place of the order's row, and whether a fill is in step.
 pub struct Booking {
     pub load: Load,
+    pub row: usize,
     pub stepped: bool,
 }
 
@@ -59,29 +68,30 @@ pub enum Admitted {
     New(Booking),
 }
 
-// What a walk has seen of a fill: the place of the slot with its ExecID, at which it ends; and where there is none the place of the
-// first of its order, and the order's booked sum. The place of none is SLOTS.
-struct Seen {
-    exec: usize,
-    order: usize,
-    booked: u64,
-}
-
 // The eight bytes by which an ID is told from others at a glance.
 struct Glance {
     at: usize,
     word: u64,
 }
 
-// The lent memory is regions, one after another. Today there is one, of slots: each is read and written through the functions
-// below. There are slots for all fills and all entries of a day.
+// The lent memory is regions, one after another: slots for all fills and all entries of a day, and a row for each of its orders.
+// Each is read and written through the functions below and in rows.
 pub const SLOTS: usize = 768;
 
 const SLOTS_AT: usize = 0;
 
 const SLOTS_SIZE: usize = SLOTS * SLOT;
 
-pub const BOOK: usize = SLOTS_SIZE;
+// Of a row: the number of its first fill, the contracts booked, and those that wait, four bytes each.
+const ROW: usize = 12;
+
+const ROWS: usize = 128;
+
+const ROWS_AT: usize = SLOTS_SIZE;
+
+const ROWS_SIZE: usize = ROWS * ROW;
+
+pub const BOOK: usize = SLOTS_SIZE + ROWS_SIZE;
 
 // "512 fills, 128 orders"; "also at 256 such entries".
 const FILLS: u32 = 512;
@@ -89,6 +99,15 @@ const FILLS: u32 = 512;
 const ORDERS: u32 = 128;
 
 const ENTRIES: u32 = 256;
+
+// The bytes of the lent memory. How long an array behind a reference is, a proof is told by such a part of it: what is to know it asks here.
+pub fn book_len(book: &[u8; BOOK]) -> usize
+    ensures { λ r. ⌜ r ≡ length (now (book .entry)) ⌝ }
+    ensures { λ r. ⌜ length (now (book .entry)) ≡ bookWidth ⌝ }
+{
+    let all = &book[..];
+    all.len()
+}
 
 // How many of count slots lie in the memory: those past its end are empty, and no search looks for one.
 fn inside(count: usize) -> usize
@@ -161,94 +180,32 @@ fn same_order(slot: &[u8], s: &[u8]) -> bool
     same_id(fill::order_of(slot), fill::order_of(s))
 }
 
-// The slot s at place i is looked at for the ExecID of slot, of which g is the glance.
-fn see_exec(seen: Seen, g: Glance, slot: &[u8], s: &[u8], i: usize) -> Seen
-    requires { ⌜ g .word ≡ wordAt (g .at) (execOf (now slot)) ⌝ }
-    ensures { λ r. ⌜ r ≡ seenExec seen (now (slot .entry)) (now (s .entry)) i ⌝ }
+// The place of the last of n slots that is a fill with the ExecID of slot; SLOTS where there is none. A report's time goes here: nothing
+// but the comparison at a glance stands in the loop. The newest is looked at first, since it is the one that is sent again.
+fn find_exec(m: &[u8], n: usize, slot: &[u8]) -> usize
+    requires { ⌜ (n ≤ mostSlots) × (length (now m) ≡ slotsHere .wide) ⌝ }
+    ensures { λ r. ⌜ someSlot (cellAt slotWidth r (now (m .entry))) ≡ findLast (sameExec (now (slot .entry))) (cells slotWidth n (now (m .entry))) ⌝ }
 {
-    if octet::word_at(fill::exec_of(s), g.at) != g.word {
-        return seen;
-    }
-    if !same_exec(slot, s) {
-        return seen;
-    }
-    Seen {
-        exec: i,
-        order: seen.order,
-        booked: seen.booked,
-    }
-}
-
-// The same for its order, with LastShares.
-fn see_order(seen: Seen, g: Glance, slot: &[u8], s: &[u8], i: usize) -> Seen
-    requires { ⌜ (g .word ≡ wordAt (g .at) (orderOf (now slot))) × (seen .booked ≤ mostSlots * largest) ⌝ }
-    ensures { λ r. ⌜ (r ≡ seenOrder seen (now (slot .entry)) (now (s .entry)) i) × (r .booked ≤ seen .booked + largest) ⌝ }
-{
-    if octet::word_at(fill::order_of(s), g.at) != g.word {
-        return seen;
-    }
-    if !same_order(slot, s) {
-        return seen;
-    }
-    Seen {
-        exec: seen.exec,
-        order: i,
-        booked: wide(fill::shares_of(s)) + seen.booked,
-    }
-}
-
-// How many of n slots are left when those at the end that differ from both IDs at a glance are passed over. A report's time goes
-// here: nothing but the two comparisons stands in the loop.
-fn pass_over(m: &[u8], n: usize, exec: Glance, order: Glance) -> usize
-    requires { ⌜ (n ≤ mostSlots) × (length (now m) ≡ bookWidth) ⌝ }
-    ensures { λ r. ⌜ (r ≤ n) × Passes (now (m .entry)) exec order n r ⌝ }
-{
+    let g = glance_at(fill::exec_of(slot));
     let mut i = n;
-    while 0 < i {
-        let at = (i - 1) * SLOT;
-        let s = &m[at..at + SLOT];
-        if octet::word_at(fill::exec_of(s), exec.at) == exec.word {
-            return i;
-        }
-        if octet::word_at(fill::order_of(s), order.at) == order.word {
-            return i;
-        }
-        i -= 1;
-    }
-    i
-}
-
-// The one walk over the slots: n of them, from the last to the first, so that the first of an order is the last that is noted. It
-// ends at the ExecID: a report that is sent again is told by it alone.
-fn walk(m: &[u8], n: usize, slot: &[u8]) -> Seen
-    requires { ⌜ (n ≤ mostSlots) × (length (now m) ≡ bookWidth) ⌝ }
-    ensures { λ r. ⌜ Sees (now (m .entry)) (now (slot .entry)) (slotsIn n (now (m .entry))) r × (r .booked ≤ mostSlots * largest) ⌝ }
-{
-    let exec = glance_at(fill::exec_of(slot));
-    let order = glance_at(fill::order_of(slot));
-    let mut seen = Seen {
-        exec: SLOTS,
-        order: SLOTS,
-        booked: 0,
-    };
-    let mut i = pass_over(m, n, exec, order);
     while 0 < i {
         i -= 1;
         let s = &m[i * SLOT..i * SLOT + SLOT];
-        seen = see_order(see_exec(seen, exec, slot, s, i), order, slot, s, i);
-        if seen.exec < SLOTS {
-            return seen;
+        if octet::word_at(fill::exec_of(s), g.at) == g.word {
+            if same_exec(slot, s) {
+                return i;
+            }
         }
-        i = pass_over(m, i, exec, order);
     }
-    seen
+    SLOTS
 }
 
 // The same of all that are counted.
-fn look(book: &[u8; BOOK], count: usize, slot: &[u8]) -> Seen
-    ensures { λ r. ⌜ Sees (now (book .entry)) (now (slot .entry)) (slotsIn count (now (book .entry))) r × (r .booked ≤ mostSlots * largest) ⌝ }
+fn look(book: &[u8; BOOK], count: usize, slot: &[u8]) -> usize
+    ensures { λ r. ⌜ someSlot (slotAt r (now (book .entry))) ≡ findLast (sameExec (now (slot .entry))) (slotsIn count (now (book .entry))) ⌝ }
 {
-    walk(book, inside(count), slot)
+    let all = &book[..];
+    find_exec(&all[0..SLOTS_SIZE], inside(count), slot)
 }
 
 // "same OrderID, symbol, side, LastShares and price".
@@ -291,21 +248,6 @@ fn by_order(slot: &[u8], known: &[u8]) -> Placed
         return clash(tags::SIDE);
     }
     Placed::New
-}
-
-// Where a fill stands among the day's: "ExecID (17) known today: same .. is already booked ..; anything different is Reject 5
-// tag 17". twin is the fill with its ExecID; where there is none, known is the first one of its order. No bytes say that there is
-// none.
-fn by_exec(slot: &[u8], twin: &[u8], known: &[u8]) -> Placed
-    ensures { λ r. ⌜ PlacedBy (now (slot .entry)) (now (twin .entry)) (now (known .entry)) r ⌝ }
-{
-    if twin.len() == 0 {
-        return by_order(slot, known);
-    }
-    if same_contents(slot, twin) {
-        return Placed::Already;
-    }
-    clash(tags::EXEC_ID)
 }
 
 // "Then room: 512 fills, 128 orders", with a slot for one more after the last.
@@ -367,23 +309,23 @@ fn carried_in(slot: &[u8], known: &[u8]) -> u32
 }
 
 // "when CumQty is carried-in plus booked sum, this fill included".
-fn in_step(slot: &[u8], known: &[u8], booked: u64) -> bool
-    requires { ⌜ booked ≤ mostSlots * largest ⌝ }
-    ensures { λ r. ⌜ r ≡ eqb (cumOf (now (slot .entry))) (carried (now (slot .entry)) (someSlot (now (known .entry))) + (booked + sharesOf (now (slot .entry)))) ⌝ }
+fn in_step(slot: &[u8], known: &[u8], booked: u32) -> bool
+    ensures { λ r. ⌜ r ≡ steps (someSlot (now (known .entry))) booked (now (slot .entry)) ⌝ }
 {
     let carried = wide(carried_in(slot, known));
-    let sum = booked + wide(fill::shares_of(slot));
+    let sum = wide(booked) + wide(fill::shares_of(slot));
     wide(fill::cum_of(slot)) == carried + sum
 }
 
-// What becomes of a fill among the day's, by one walk over them.
-fn admit_fill(book: &[u8; BOOK], last: usize, load: Load, slot: &[u8]) -> Admitted
-    requires { ⌜ isEntry (now slot) ≡ false ⌝ }
-    ensures { λ r. ⌜ r ≡ admitOf (slotsIn last (now (book .entry))) load (now (slot .entry)) ⌝ }
+// What becomes of a fill whose ExecID is new: its order is found by its row.
+fn admit_new(book: &[u8; BOOK], last: usize, load: Load, slot: &[u8]) -> Admitted
+    requires { ⌜ (isEntry (now slot) ≡ false) × (findLast (sameExec (now slot)) (slotsIn last (now book)) ≡ none) ⌝ }
+    ensures { λ r. ⌜ r ≡ admitOf (slotsIn last (now (book .entry))) (rowsIn (load .orders) (now (book .entry))) load (now (slot .entry)) ⌝ }
 {
-    let seen = look(book, last, slot);
-    let known = slot_at(book, seen.order);
-    match by_exec(slot, slot_at(book, seen.exec), known) {
+    let place = find_row(book, last, load.orders as usize, slot);
+    let row = row_in(book, load.orders as usize, place);
+    let known = head_of(book, last, row);
+    match by_order(slot, known) {
         Placed::Clash(f) => Admitted::Clash(f),
         Placed::Already => Admitted::Already,
         Placed::New => {
@@ -396,15 +338,31 @@ fn admit_fill(book: &[u8; BOOK], last: usize, load: Load, slot: &[u8]) -> Admitt
                     orders: orders_with(load.orders, known),
                     entries: load.entries,
                 },
-                stepped: in_step(slot, known, seen.booked),
+                row: place,
+                stepped: in_step(slot, known, octet::four_at(row, 4)),
             })
         }
     }
 }
 
+// What becomes of a fill among the day's: a report that is sent again is told by its ExecID alone.
+fn admit_fill(book: &[u8; BOOK], last: usize, load: Load, slot: &[u8]) -> Admitted
+    requires { ⌜ isEntry (now slot) ≡ false ⌝ }
+    ensures { λ r. ⌜ r ≡ admitOf (slotsIn last (now (book .entry))) (rowsIn (load .orders) (now (book .entry))) load (now (slot .entry)) ⌝ }
+{
+    let twin = slot_at(book, look(book, last, slot));
+    if twin.len() == 0 {
+        return admit_new(book, last, load, slot);
+    }
+    if same_contents(slot, twin) {
+        return Admitted::Already;
+    }
+    Admitted::Clash(Fault::of(reasons::WRONG_VALUE, tags::EXEC_ID))
+}
+
 // What becomes of a slot among the day's. last is the last number given, as many slots there are.
 pub fn admit(book: &[u8; BOOK], last: usize, load: Load, slot: &[u8]) -> Admitted
-    ensures { λ r. ⌜ r ≡ admitOf (slotsIn last (now (book .entry))) load (now (slot .entry)) ⌝ }
+    ensures { λ r. ⌜ r ≡ admitOf (slotsIn last (now (book .entry))) (rowsIn (load .orders) (now (book .entry))) load (now (slot .entry)) ⌝ }
 {
     if fill::is_entry(slot) {
         return admit_entry(book, last, load, slot);
@@ -431,7 +389,7 @@ pub fn slot_at(book: &[u8; BOOK], i: usize) -> &[u8]
 }
 
 // Writes a slot after the last of count. Where there is no room, or it is no slot, nothing changes, and the answer is false.
-pub fn append(book: &mut [u8; BOOK], count: usize, slot: &[u8]) -> bool
+fn append(book: &mut [u8; BOOK], count: usize, slot: &[u8]) -> bool
     ensures { λ r. ⌜ (r ≡ fitsAfter count (now (slot .entry))) × (now (book .exit) ≡ appended (now (book .entry)) count (now (slot .entry))) ⌝ }
 {
     if SLOTS <= count {
@@ -443,14 +401,31 @@ pub fn append(book: &mut [u8; BOOK], count: usize, slot: &[u8]) -> bool
     octet::copy_into(book, place_of(count), slot)
 }
 
-// Puts the first count slots of another memory into this one; past them it stays. A lent memory has BOOK bytes.
-pub fn put_slots(book: &mut [u8; BOOK], count: usize, from: &[u8; BOOK])
-    ensures { λ r. ⌜ now (book .exit) ≡ holding (now (book .entry)) (slotsIn count (now (from .entry))) ⌝ }
+// Writes a slot after the last of count and, of a fill, its contracts into the row at that place: one of so many orders' rows, or one more
+// behind the last.
+pub fn enter(book: &mut [u8; BOOK], count: usize, orders: usize, row: usize, slot: &[u8])
+    ensures { λ r. ⌜ now (book .exit) ≡ entered (now (book .entry)) count orders row (now (slot .entry)) ⌝ }
+{
+    if append(book, count, slot) {
+        if fill::is_fill(slot) {
+            more_in_row(book, count, orders, row, slot);
+        }
+    }
+}
+
+// Puts the first count slots and the first orders' rows of another memory into this one; past them it stays. A lent memory has BOOK bytes.
+pub fn put_day(book: &mut [u8; BOOK], count: usize, orders: usize, from: &[u8; BOOK])
+    ensures { λ r. ⌜ now (book .exit) ≡ holding (now (book .entry)) (slotsIn count (now (from .entry))) (rowsIn orders (now (from .entry))) ⌝ }
     ensures { λ r. ⌜ length (now (book .entry)) ≡ bookWidth ⌝ }
 {
     octet::copy_into(
         book,
         SLOTS_AT,
         octet::part(from, SLOTS_AT, inside(count) * SLOT),
+    );
+    octet::copy_into(
+        book,
+        ROWS_AT,
+        octet::part(from, ROWS_AT, rows::inside_rows(orders) * ROW),
     );
 }

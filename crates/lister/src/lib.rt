@@ -1,9 +1,10 @@
-// The list program: "reads notes from standard input" and prints their listing, or says on standard error why it cannot.
+// The list program and the totals program: "reads notes from standard input" and prints their listing, or their totals, or says on standard error why it cannot.
 use book::BOOK;
 use libc::STDERR_FILENO;
 use libc::STDIN_FILENO;
 use libc::STDOUT_FILENO;
 use listing::PAGE;
+use totals::TOTALS;
 ghost use Prim.Native.Nat.{_≤_, _<_};
 
 // One byte more than the longest file tells that it is too long.
@@ -62,5 +63,22 @@ pub fn list_input() {
     match read_notes(&mut notes) {
         Read::To(n) => print_listing(octet::part(&notes, 0, n)),
         Read::Failed => complain(b"list: the notes could not be read\n"),
+    }
+}
+
+fn print_totals(notes: &[u8]) {
+    let mut book = [0u8; BOOK];
+    let mut page = [0u8; TOTALS];
+    let len = totals::write_totals(notes, &mut book, &mut page);
+    if !io::write_all(STDOUT_FILENO, octet::part(&page, 0, len)) {
+        complain(b"page: the totals could not be written\n");
+    }
+}
+
+pub fn total_input() {
+    let mut notes = [0u8; INPUT];
+    match read_notes(&mut notes) {
+        Read::To(n) => print_totals(octet::part(&notes, 0, n)),
+        Read::Failed => complain(b"page: the notes could not be read\n"),
     }
 }

@@ -52,11 +52,11 @@ use Rattle.book.specs.Memory.{mostSlots, slotsIn, slotAt}
 use Rattle.book.specs.Place.{mostFills, sumWhere}
 use Rattle.book.specs.Entries.{mostEntries}
 use Rattle.book.specs.Orders.{fillsOf, countWhere, entriesOf}
-use Rattle.book.proofs.Slots.{slots-length, slots-step, slots-end}
+use Rattle.book.proofs.Regions.{slots-length, slots-step, slots-end}
 use Rattle.book.proofs.Counts.{count-most, count-split}
 use Rattle.note.specs.Kept.{Kept, waiting}
 use Rattle.note.proofs.Keeping.{AllSlots, AllLawful, fills-all, entries-all}
-use Rattle.restart.specs.Restart.{Outcome, Again, Unlawful, restart, countsOf, told, bookAfter, HasSlots}
+use Rattle.restart.specs.Restart.{Outcome, Again, Unlawful, restart, countsOf, told, bookAfter, HasDay}
 use Rattle.restart.specs.declared.Counts.{Counts}
 use Rattle.restart.specs.declared.Restarted.the-variants as restarted
 use Rattle.text.specs.declared.Text.{Text}
@@ -345,12 +345,12 @@ pub record Paged (o : Outcome) (k : Counts) (book : List ℕ) : Type 0 where
   pub few : k .last ≤ mostSlots
   pub mark : k .acked ≤ k .last
 
-pub paged : (o : Outcome) (k : Counts) (whole most : ℕ) (book : List ℕ) → restarted.Again k whole ≡ told o → GivenIn most o → HasSlots book o → Paged o k book
+pub paged : (o : Outcome) (k : Counts) (whole most : ℕ) (book : List ℕ) → restarted.Again k whole ≡ told o → GivenIn most o → HasDay book o → Paged o k book
 paged (Unlawful at) k whole most book e g h = never cc
 paged (Again q w) k whole most book e g h =
     let f : k ≡ countsOf q = cc in
     subst (λ (x : Counts). Paged (Again q w) x book) (sym f)
-    (record { page = ap (waitingPage (q .acked)) h; few = g .sound .few; mark = g .sound .mark })
+    (record { page = ap (waitingPage (q .acked)) (h .0); few = g .sound .few; mark = g .sound .mark })
 
 pub damaged-is : (o : Outcome) (at : ℕ) → restarted.Unlawful at ≡ told o → damaged at ≡ printed o
 damaged-is (Again q w) at e = never cc

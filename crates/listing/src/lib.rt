@@ -28,7 +28,8 @@ fn first_text(fills: u64, sum: u64) -> Text
     waiting.part(b" contracts ", 11).decimal(sum).put(b'\n')
 }
 
-fn damaged_text(at: u64) -> Text
+// The line of a file with an unlawful note, whose first byte is at that place.
+pub fn damaged_text(at: u64) -> Text
     ensures { λ r. ⌜ r ≡ puts empty (damaged at) ⌝ }
 {
     Text::new().part(b"damaged at ", 11).decimal(at).put(b'\n')

@@ -4,6 +4,7 @@ mod code; // bytes, decoded and encoded
 mod script; // a line of the script, read
 mod transcript; // what is written of a call
 mod calls; // a call, handed to the receiver
+mod pages; // the totals page, lent rows
 mod running; // a line, run on what a script works on
 mod reading; // standard input, line by line
 

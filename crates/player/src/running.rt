@@ -5,6 +5,7 @@ use super::Sizes;
 use super::World;
 use super::calls::between;
 use super::calls::hand;
+use super::pages::ask_page;
 use super::plus;
 use super::script::Ask;
 use super::script::Ledger;
@@ -47,7 +48,7 @@ impl World {
     }
 
     // The same after a call whose line was written, or could not be.
-    fn after(self, state: State, tally: Tally, journal: usize, written: bool) -> World {
+    pub(crate) fn after(self, state: State, tally: Tally, journal: usize, written: bool) -> World {
         let setup = self.setup;
         let sizes = self.sizes;
         World {
@@ -212,6 +213,7 @@ fn admitted(begun: bool, line: Line) -> Line {
         Line::What => Line::What,
         Line::Lend(_) => Line::What,
         Line::Cut(_) => Line::What,
+        Line::Page(_) => Line::What,
         Line::Call(_) => Line::What,
     }
 }
@@ -229,6 +231,7 @@ pub(crate) fn run_line(
         Line::Ids(middle, end) => set_up(w, between(bytes, 0, middle), between(bytes, middle, end)),
         Line::Lend(sizes) => w.lending(sizes).answer(text_of(b"ok")),
         Line::Cut(n) => cut(w, n, bytes, journal, book),
+        Line::Page(n) => ask_page(w, n, book),
         Line::Call(ask) => call(w, ask, bytes, journal, book),
     }
 }

@@ -4,6 +4,7 @@ use super::LENT;
 use super::Sizes;
 use super::code::Decoded;
 use super::code::decode;
+use super::pages::ROWS;
 use super::plus;
 use answer::LARGEST;
 use session::Own;
@@ -31,6 +32,7 @@ pub(crate) enum Line {
     Ids(usize, usize),
     Lend(Sizes),
     Cut(usize),
+    Page(usize),
     Call(Ask),
 }
 
@@ -125,6 +127,13 @@ fn cut_of(n: u64) -> Line {
     Line::Cut(n as usize)
 }
 
+fn page_of(n: u64) -> Line {
+    if ROWS < n as usize {
+        return Line::What;
+    }
+    Line::Page(n as usize)
+}
+
 // A restart with more bytes than the journal has room for is not in the language.
 fn restart_of(end: usize) -> Line {
     if JOURNAL < end {
@@ -160,6 +169,9 @@ fn of_one_word(verb: &[u8], word: &[u8], bytes: &mut [u8]) -> Line {
     }
     if octet::same(verb, b"cut") {
         return cut_of(read_number(word));
+    }
+    if octet::same(verb, b"page") {
+        return page_of(read_number(word));
     }
     match decode(word, bytes, 0) {
         Decoded::To(end) => of_bytes(verb, end),

@@ -7,7 +7,7 @@ use tally::Tally;
 use text::Text;
 
 // A line of the transcript: the answer and the numbers are a text, and a byte of a lent buffer takes at most three.
-const SHOWN: usize = 40000;
+pub(crate) const SHOWN: usize = 40000;
 
 fn say(t: Text, s: &[u8]) -> Text {
     t.part(s, s.len())
@@ -65,7 +65,30 @@ fn ending(spoiled: bool) -> Text {
     text_of(b"\n")
 }
 
-// Writes the line of a call: its answer, the numbers after it, and what it wrote to each buffer. It answers whether that could be written.
+// The answer of a call, the numbers after it, and what it wrote to each buffer.
+pub(crate) fn put_call(
+    out: &mut [u8],
+    answer: Text,
+    state: State,
+    tally: Tally,
+    reply: &[u8],
+    note: &[u8],
+    line: &[u8],
+) -> usize {
+    let numbers = say_tally(say_state(answer, state), tally);
+    let front = numbers.place(out, 0);
+    let replied = put_written(out, front, b"reply", reply);
+    let noted = put_written(out, replied, b"note", note);
+    put_written(out, noted, b"line", line)
+}
+
+// Ends a line and writes it. It answers whether that could be written.
+pub(crate) fn put_end(out: &mut [u8], at: usize, spoiled: bool) -> bool {
+    let end = ending(spoiled).place(out, at);
+    io::write_all(STDOUT_FILENO, octet::part(out, 0, end))
+}
+
+// Writes the line of a call. It answers whether that could be written.
 pub(crate) fn show(
     answer: Text,
     state: State,
@@ -76,11 +99,6 @@ pub(crate) fn show(
     spoiled: bool,
 ) -> bool {
     let mut out = [0u8; SHOWN];
-    let numbers = say_tally(say_state(answer, state), tally);
-    let front = numbers.place(&mut out, 0);
-    let replied = put_written(&mut out, front, b"reply", reply);
-    let noted = put_written(&mut out, replied, b"note", note);
-    let back = put_written(&mut out, noted, b"line", line);
-    let end = ending(spoiled).place(&mut out, back);
-    io::write_all(STDOUT_FILENO, octet::part(&out, 0, end))
+    let end = put_call(&mut out, answer, state, tally, reply, note, line);
+    put_end(&mut out, end, spoiled)
 }

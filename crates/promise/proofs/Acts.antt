@@ -29,7 +29,8 @@ use Rattle.fill.specs.Slot.{Slot, isEntry}
 use Rattle.fill.specs.Booked.{IsSlot, lineOf, slotLawful}
 use Rattle.book.specs.Place.{isNew}
 use Rattle.book.specs.Admitting.{place, hasRoom, noLoad}
-use Rattle.book.specs.Orders.{ordersAfter, countWhere, loadOf}
+use Rattle.book.specs.Orders.{ordersAfter, countWhere, loadOf, rowsOf, dayOf}
+use Rattle.book.proofs.Stored.{rows-empty, day-empty}
 use Rattle.book.proofs.ByKind.{fill-no-entry}
 use Rattle.book.specs.declared.Placed.{Placed}
 use Rattle.book.specs.declared.Placed.the-variants as placed
@@ -132,8 +133,8 @@ acts-quiet st w a e g u k = record {
 
 -- ---- the session's calls
 
-kept-path : (q : Kept) (e o : ℕ) → e ≡ q .e → o ≡ q .o → record { e = e; o = o; slots = q .slots; load = q .load; acked = q .acked } ≡ q
-kept-path q e o a b = λ i. record { e = a i; o = b i; slots = q .slots; load = q .load; acked = q .acked }
+kept-path : (q : Kept) (e o : ℕ) → e ≡ q .e → o ≡ q .o → record { e = e; o = o; slots = q .slots; rows = q .rows; load = q .load; acked = q .acked; day = q .day } ≡ q
+kept-path q e o a b = λ i. record { e = a i; o = b i; slots = q .slots; rows = q .rows; load = q .load; acked = q .acked; day = q .day }
 
 raises-law : (q : Kept) (e o : ℕ) → q .e ≤ e → e ≤ nineDigits → q .o ≤ o → o ≤ nineDigits → eqb (q .e) e && eqb (q .o) o ≡ false → lawful q (Raises e o) ≡ true
 unfolding lawful
@@ -219,7 +220,7 @@ module _ (setup : Setup) (st : State) (time s : List ℕ) (safe : Safe (st .kept
   acts-rejected : (len : ℕ) (ps : Pieces) (n : ℕ) (f : Fault) → st .kept .e < nineDigits → Acts st (Message time s) (settled setup st time len ps (rejected (sessionOf st) n f))
   acts-rejected len ps n f l = acts-settled len ps (rejected (sessionOf st) n f) (rejected-numbers (sessionOf st) o-most (omega arith) n f .onward) refl
 
-  books-law : (f : Slot) → st .kept .e < nineDigits → slotLawful f ≡ true → place (st .kept .slots) f ≡ placed.New → hasRoom (st .kept .slots) (st .kept .load) f ≡ true
+  books-law : (f : Slot) → st .kept .e < nineDigits → slotLawful f ≡ true → place (st .kept .slots) (st .kept .rows) f ≡ placed.New → hasRoom (st .kept .slots) (st .kept .rows) (st .kept .load) f ≡ true
       → lawful (st .kept) (bookingNote st f) ≡ true
   unfolding lawful bookable
   books-law f l law new room =
@@ -230,7 +231,7 @@ module _ (setup : Setup) (st : State) (time s : List ℕ) (safe : Safe (st .kept
   told-booked : (f : Slot) → becameOf (bookedAs st f) .booked ≡ some (length (st .kept .slots) + 1)
   told-booked f = of-cond (λ (o : Outcome). becameOf o .booked ≡ some (length (st .kept .slots) + 1)) (isEntry f) (λ _. refl) (λ _. refl)
 
-  acts-booked : (len : ℕ) (f : Slot) → st .kept .e < nineDigits → Lawful f → place (st .kept .slots) f ≡ placed.New → hasRoom (st .kept .slots) (st .kept .load) f ≡ true
+  acts-booked : (len : ℕ) (f : Slot) → st .kept .e < nineDigits → Lawful f → place (st .kept .slots) (st .kept .rows) f ≡ placed.New → hasRoom (st .kept .slots) (st .kept .rows) (st .kept .load) f ≡ true
       → Acts st (Message time s) (booked st len f)
   unfolding booked after
   acts-booked len f l law new room =
@@ -251,11 +252,11 @@ module _ (setup : Setup) (st : State) (time s : List ℕ) (safe : Safe (st .kept
         marks = λ h m. stands-more st (Message time s) (booked st len f) h (f ∷ []) refl refl refl refl refl m;
       }
 
-  acts-placed : (len : ℕ) (ps : Pieces) (n : ℕ) (f : Slot) (p : Placed) → st .kept .e < nineDigits → Lawful f → place (st .kept .slots) f ≡ p
+  acts-placed : (len : ℕ) (ps : Pieces) (n : ℕ) (f : Slot) (p : Placed) → st .kept .e < nineDigits → Lawful f → place (st .kept .slots) (st .kept .rows) f ≡ p
       → Acts st (Message time s) (carriedOut setup st time len ps (placedAs st n f p))
   unfolding carriedOut placedAs withRoom
   acts-placed len ps n f placed.New l law e =
-      of-cond (λ (d : Deed). Acts st (Message time s) (carriedOut setup st time len ps d)) (hasRoom (st .kept .slots) (st .kept .load) f)
+      of-cond (λ (d : Deed). Acts st (Message time s) (carriedOut setup st time len ps d)) (hasRoom (st .kept .slots) (st .kept .rows) (st .kept .load) f)
       (λ room. acts-booked len f l law e room)
       (λ _. acts-quiet st (Message time s) (Refused refusal.NoRoom) refl refl refl refl)
   acts-placed len ps n f placed.Already l law e =
@@ -271,7 +272,7 @@ module _ (setup : Setup) (st : State) (time s : List ℕ) (safe : Safe (st .kept
   acts-ruled len ps n reported.Aside e l law =
       acts-passed len ps outcome.Aside l refl
   acts-ruled len ps n reported.Fill e l law =
-      acts-placed len ps n (slotIn ps) (place (st .kept .slots) (slotIn ps)) l (law (fill-told (lookOf ps) e .0)) refl
+      acts-placed len ps n (slotIn ps) (place (st .kept .slots) (st .kept .rows) (slotIn ps)) l (law (fill-told (lookOf ps) e .0)) refl
 
   acts-judged : (len : ℕ) → foundIn s ≡ found.Framed len → (v : Verdict) → judge setup (sessionOf st) (piecesOf (bodyIn len s)) ≡ v
       → Acts st (Message time s) (carriedOut setup st time len (piecesOf (bodyIn len s)) (becomes st (broughtBy (sessionOf st) (lookOf (piecesOf (bodyIn len s))) v)))
@@ -292,7 +293,7 @@ module _ (setup : Setup) (st : State) (time s : List ℕ) (safe : Safe (st .kept
       let t = judge-correction setup (sessionOf st) ps n e in
       let small = t .most in
       let low : st .kept .e < nineDigits = let z : n ≡ st .kept .e = t .number in omega arith in
-      acts-placed len ps n (entryIn ps) (place (st .kept .slots) (entryIn ps)) low
+      acts-placed len ps n (entryIn ps) (place (st .kept .slots) (st .kept .rows) (entryIn ps)) low
       (lawful-entry ps (correction-booked setup (st .phase) (st .kept .o) ps (t .fault) (t .kind))) refl
 
   acts-found : (f : Found) → foundIn s ≡ f → Acts st (Message time s) (foundTo setup st time s f)
@@ -396,7 +397,9 @@ empty-path q safe h =
     let s : q .slots ≡ [] = nil-of (q .slots) l in
     let nothing : q .load ≡ noLoad = safe .sound .load-all ∙ ap loadOf s in
     let k : q .acked ≡ 0 = eqb-true (q .acked) 0 (a .1) in
-    λ i. record { e = sym e i; o = sym o i; slots = sym s i; load = sym nothing i; acked = sym k i }
+    let r : q .rows ≡ [] = safe .sound .rows-all ∙ ap₂ rowsOf s k ∙ rows-empty in
+    let d : q .day ≡ 0 = safe .sound .day-all ∙ ap₂ dayOf s k ∙ day-empty in
+    λ i. record { e = sym e i; o = sym o i; slots = sym s i; rows = sym r i; load = sym nothing i; acked = sym k i; day = sym d i }
 
 tells-day : (st : State) (d : Did) → numberTold (d .answer) ≡ none → d .next .kept .slots ≡ [] → Tells st d
 tells-day st d u e n = ((λ h. none-some n (sym u ∙ h)), λ x. no-empty (st .kept .slots) (x .0) (sym e ∙ x .1 .slots))

@@ -17,6 +17,7 @@ use Rattle.wire.specs.Messages as messages
 use Rattle.fill.specs.Slot as slot
 use Rattle.fill.specs.Booked as slots
 use Rattle.book.specs.Place as place
+use Rattle.book.specs.Rows as order-rows
 use Rattle.book.specs.Admitting as admitting
 use Rattle.note.specs.Kept as kept
 use Rattle.note.specs.Kinds as kinds
@@ -75,15 +76,15 @@ unfolding steps1to3 judging.rejectedIf judging.filledTo judging.moved judging.lo
 sessions = tt
 
 unfoldable pub placing : Unit {0}
-unfolding place.sameExec place.sameOrder place.byOrder place.byExec place.placeFill place.knownOrder place.ordersWith place.fillRoom
+unfolding place.sameExec place.sameOrder place.byOrder place.byExec place.placeFill order-rows.rowFor order-rows.firstFor order-rows.bookedFor order-rows.isKnown order-rows.rowOf order-rows.raised order-rows.lowered order-rows.rowsWith order-rows.dayWith order-rows.rowsLess order-rows.dayLess order-rows.rowsWithout order-rows.dayWithout
 placing = tt
 
 unfoldable pub books : Unit {0}
-unfolding placing slot.bodyOf slot.fillLawful slot.fillLine slots.slotLawful slots.lineOf admitting.place admitting.hasRoom admitting.loadWith
+unfolding placing slot.bodyOf slot.fillLawful slot.fillLine slots.slotLawful slots.lineOf admitting.place admitting.hasRoom admitting.inStep admitting.loadWith
 books = tt
 
 unfoldable pub keeping : Unit {0}
-unfolding place.sumWhere place.inStep kept.bookable kept.lawful kept.after restart.run restart.restart
+unfolding place.sumWhere kept.bookable kept.lawful kept.after restart.run restart.restart
 keeping = tt
 
 unfoldable pub noting : Unit {0}

@@ -231,8 +231,8 @@ module _ (rules : Values → Option Fault) (setup : Setup) (phase : Phase) (q : 
   would-book : lawful q (Books e o s) ≡ true → WouldBook rules setup phase q e o s
   would-book law =
       let l = lawful-books q e o s law in
-      let b = bookable-facts (q .slots) (q .load) s (l .3) in
-      record { one-up = l .0; within = l .1; sent = l .2; told = same .0 (sym as-fill ∙ b .0); new = only-new (place (q .slots) s) (b .1); room = b .2 }
+      let b = bookable-facts (q .slots) (q .rows) (q .load) s (l .3) in
+      record { one-up = l .0; within = l .1; sent = l .2; told = same .0 (sym as-fill ∙ b .0); new = only-new (place (q .slots) (q .rows) s) (b .1); room = b .2 }
 
   is-lawful : WouldBook rules setup phase q e o s → lawful q (Books e o s) ≡ true
   unfolding lawful bookable

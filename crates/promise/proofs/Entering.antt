@@ -4,6 +4,7 @@
 use Prim.Native.Nat.{ℕ, _+_, _<_}
 use mathlib.Core.Path.{_≡_, refl, sym, ap, ap₂, _∙_}
 use mathlib.Core.List.{List, [], _∷_, _++_}
+use mathlib.Core.Option.{Option}
 use mathlib.Core.Bool.{Bool, true, false, cond, _&&_, _||_}
 use native.Mathlib.Omega.{arith}
 use lib.ListN.{length, length-append}
@@ -16,10 +17,11 @@ use Rattle.answer.specs.Numbers.{counted}
 use Rattle.answer.specs.declared.Setup.{Setup}
 use Rattle.answer.specs.declared.Outcome.the-variants as outcome
 use Rattle.answer.specs.declared.Refusal.the-variants as refusal
-use Rattle.fill.specs.Slot.{Slot, isEntry}
+use Rattle.fill.specs.Slot.{Slot, isFill, isEntry, sharesOf}
 use Rattle.book.specs.Memory.{mostSlots}
-use Rattle.book.specs.Place.{mostFills, mostOrders, knownOrder, fillRoom, inStep}
-use Rattle.book.specs.Admitting.{place, hasRoom, loadWith, withEntry}
+use Rattle.book.specs.Place.{mostFills, mostOrders, placeFill, fillRoom}
+use Rattle.book.specs.Rows.{Row, firstFor, isKnown, moreOf, rowsWith, dayWith}
+use Rattle.book.specs.Admitting.{place, hasRoom, inStep, loadWith, withEntry}
 use Rattle.book.specs.declared.Load.{Load}
 use Rattle.book.specs.declared.Placed.{Placed}
 use Rattle.book.specs.declared.Placed.the-variants as placed
@@ -27,7 +29,7 @@ use Rattle.book.proofs.ByKind.{entry-no-fill, place-as, room-as, load-as}
 use Rattle.book.proofs.Placing.{has-room}
 use Rattle.book.proofs.Orders.{orders-still}
 use Rattle.book.proofs.Counts.{fills-still}
-use Rattle.book.proofs.Apart.{find-exec-apart, find-order-apart, sum-order-apart, place-fill-apart, fill-room-apart, step-apart}
+use Rattle.book.proofs.Apart.{find-exec-apart, find-order-apart, sum-order-apart, place-fill-apart, known-apart, first-apart, step-apart}
 use Rattle.note.specs.Kept.{after}
 use Rattle.note.proofs.Keeping.{Sound, slots-split}
 use Rattle.session.specs.Session.{expecting}
@@ -39,6 +41,14 @@ use Rattle.promise.specs.World.{Step, world}
 use Rattle.promise.specs.Entering.{Apart, afterHearing, Later}
 use Rattle.promise.proofs.Good.{good, safe-live}
 
+rows-kept : (ss : List Slot) (rows : List Row) (e : Slot) → isFill e ≡ false → rowsWith ss rows e ≡ rows
+unfolding rowsWith
+rows-kept ss rows e h = cond-false (isFill e) (moreOf ss rows e) rows h
+
+day-kept : (day : ℕ) (e : Slot) → isFill e ≡ false → dayWith day e ≡ day
+unfolding dayWith
+day-kept day e h = cond-false (isFill e) (counted day (sharesOf e)) day h
+
 pub apart : (ss : List Slot) (e : Slot) → isEntry e ≡ true → Apart ss e
 apart ss e is =
     let not-fill = entry-no-fill e is in
@@ -46,8 +56,10 @@ apart ss e is =
       known = λ f. find-exec-apart e not-fill ss f;
       order = λ f. find-order-apart e not-fill ss f;
       sum = λ f. sum-order-apart e not-fill ss f;
-      placed = λ f. place-fill-apart e not-fill ss f;
-      stepped = λ f. step-apart e not-fill ss f;
+      placed = λ rows f. place-fill-apart e not-fill ss f (firstFor (ss ++ (e ∷ [])) rows f) ∙ ap (λ (o : Option Slot). placeFill ss o f) (first-apart e not-fill ss f rows);
+      stepped = λ rows f. step-apart e not-fill ss f rows;
+      rows = λ rows. rows-kept ss rows e not-fill;
+      day = λ day. day-kept day e not-fill;
       orders = orders-still ss e not-fill;
       fills = fills-still ss e not-fill;
     }
@@ -56,7 +68,7 @@ apart ss e is =
 
 -- two states with one session, and room in both or in neither, decide alike of a slot that is placed alike
 placed-alike : (a b : State) (n : ℕ) (f : Slot) (p : Placed) → sessionOf a ≡ sessionOf b
-    → hasRoom (a .kept .slots) (a .kept .load) f ≡ hasRoom (b .kept .slots) (b .kept .load) f → placedAs a n f p ≡ placedAs b n f p
+    → hasRoom (a .kept .slots) (a .kept .rows) (a .kept .load) f ≡ hasRoom (b .kept .slots) (b .kept .rows) (b .kept .load) f → placedAs a n f p ≡ placedAs b n f p
 unfolding placedAs withRoom
 placed-alike a b n f placed.New same room = ap (λ (r : Bool). cond r (Keep f) (Refuse refusal.NoRoom)) room
 placed-alike a b n f placed.Already same room = ap (λ (s : Session). Say (passed outcome.Already s)) same
@@ -69,9 +81,12 @@ either true false false h k = refl
 either false true false h k = refl
 either false false false h k = refl
 
-module _ (st : State) (sound : Sound (st .kept)) (e : Slot) (is : isEntry e ≡ true) (has : hasRoom (st .kept .slots) (st .kept .load) e ≡ true) where
+module _ (st : State) (sound : Sound (st .kept)) (e : Slot) (is : isEntry e ≡ true) (has : hasRoom (st .kept .slots) (st .kept .rows) (st .kept .load) e ≡ true) where
   abbrev ss : List Slot
   ss = st .kept .slots
+
+  abbrev rows : List Row
+  rows = st .kept .rows
 
   abbrev load : Load
   load = st .kept .load
@@ -93,44 +108,48 @@ module _ (st : State) (sound : Sound (st .kept)) (e : Slot) (is : isEntry e ≡ 
 
   -- where fills have room there is a slot for one more, with the entry as without it
   module _ (f : Slot) (other : isEntry f ≡ false) where
-    slot-left : fillRoom ss (load .fills) (load .orders) f ≡ true → length ss + 1 < mostSlots
-    unfolding fillRoom
+    slot-left : fillRoom (isKnown ss rows f) (load .fills) (load .orders) ≡ true → length ss + 1 < mostSlots
     slot-left t =
-        let fills = ltb-true (load .fills) mostFills (and-both (ltb (load .fills) mostFills) (knownOrder ss f || ltb (load .orders) mostOrders) t .0) in
-        let entries = has-room ss load e has .few-entries is in
+        let fills = ltb-true (load .fills) mostFills (and-both (ltb (load .fills) mostFills) (isKnown ss rows f || ltb (load .orders) mostOrders) t .0) in
+        let entries = has-room ss rows load e has .few-entries is in
         omega (arith, slots-split (st .kept) sound)
 
-    room-same : hasRoom (ss ++ (e ∷ [])) (loadWith ss load e) f ≡ hasRoom ss load f
+    room-same : hasRoom (ss ++ (e ∷ [])) (rowsWith ss rows e) (loadWith ss rows load e) f ≡ hasRoom ss rows load f
     room-same =
-        let room : Bool = fillRoom ss (load .fills) (load .orders) f in
-        ap (λ (l : Load). hasRoom (ss ++ (e ∷ [])) l f) (load-as e is ss load)
-        ∙ room-as f other (ss ++ (e ∷ [])) (withEntry load)
-        ∙ ap₂ (λ (n : ℕ) (b : Bool). ltb n mostSlots && b) longer (fill-room-apart e (entry-no-fill e is) ss f (load .fills) (load .orders))
+        let room : Bool = fillRoom (isKnown ss rows f) (load .fills) (load .orders) in
+        ap₂ (λ (x : List Row) (l : Load). hasRoom (ss ++ (e ∷ [])) x l f) (rows-kept ss rows e (entry-no-fill e is)) (load-as e is ss rows load)
+        ∙ room-as f other (ss ++ (e ∷ [])) rows (withEntry load)
+        ∙ ap₂ (λ (n : ℕ) (b : Bool). ltb n mostSlots && fillRoom b (load .fills) (load .orders)) longer (known-apart e (entry-no-fill e is) ss f rows)
         ∙ either (ltb (length ss + 1) mostSlots) (ltb (length ss) mostSlots) room
         (λ t. lt-ltb (length ss + 1) mostSlots (slot-left t))
         (λ t. lt-ltb (length ss) mostSlots (let l = slot-left t in omega arith))
-        ∙ sym (room-as f other ss load)
+        ∙ sym (room-as f other ss rows load)
 
-    place-same : place (ss ++ (e ∷ [])) f ≡ place ss f
-    place-same = place-as f other (ss ++ (e ∷ [])) ∙ place-fill-apart e (entry-no-fill e is) ss f ∙ sym (place-as f other ss)
+    place-same : place (ss ++ (e ∷ [])) (rowsWith ss rows e) f ≡ place ss rows f
+    place-same =
+        ap (λ (x : List Row). place (ss ++ (e ∷ [])) x f) (rows-kept ss rows e (entry-no-fill e is))
+        ∙ place-as f other (ss ++ (e ∷ [])) rows
+        ∙ apart ss e is .placed rows f
+        ∙ sym (place-as f other ss rows)
 
     becomes-same : (n : ℕ) → becomes (withSlot st e) (This n f) ≡ becomes (afterHearing st) (This n f)
     unfolding becomes after
     becomes-same n =
         ap (placedAs (withSlot st e) n f) place-same
-        ∙ placed-alike (withSlot st e) (afterHearing st) n f (place ss f) session-same room-same
+        ∙ placed-alike (withSlot st e) (afterHearing st) n f (place ss rows f) session-same room-same
 
-    booked-after : bookedAs (afterHearing st) f ≡ outcome.Booked (length ss + 1) (inStep ss f)
-    booked-after = cond-false (isEntry f) (outcome.Entered (length ss + 1)) (outcome.Booked (length ss + 1) (inStep ss f)) other
+    booked-after : bookedAs (afterHearing st) f ≡ outcome.Booked (length ss + 1) (inStep ss rows f)
+    booked-after = cond-false (isEntry f) (outcome.Entered (length ss + 1)) (outcome.Booked (length ss + 1) (inStep ss rows f)) other
 
-    booked-later : bookedAs (withSlot st e) f ≡ outcome.Booked (length ss + 2) (inStep ss f)
+    booked-later : bookedAs (withSlot st e) f ≡ outcome.Booked (length ss + 2) (inStep ss rows f)
     unfolding after
     booked-later =
         let two : length (ss ++ (e ∷ [])) + 1 ≡ length ss + 2 = omega (arith, longer) in
-        cond-false (isEntry f) _ _ other ∙ ap₂ outcome.Booked two (step-apart e (entry-no-fill e is) ss f)
+        cond-false (isEntry f) _ _ other ∙ ap₂ outcome.Booked two
+        (ap (λ (x : List Row). inStep (ss ++ (e ∷ [])) x f) (rows-kept ss rows e (entry-no-fill e is)) ∙ step-apart e (entry-no-fill e is) ss f rows)
 
 -- in every world, of an entry that has room
-pub later : (steps : List Step) (e : Slot) → isEntry e ≡ true → hasRoom (world steps .live .kept .slots) (world steps .live .kept .load) e ≡ true → Later (world steps .live) e
+pub later : (steps : List Step) (e : Slot) → isEntry e ≡ true → hasRoom (world steps .live .kept .slots) (world steps .live .kept .rows) (world steps .live .kept .load) e ≡ true → Later (world steps .live) e
 later steps e is has =
     let st : State = world steps .live in
     let sound = safe-live (world steps) (good steps) .sound in

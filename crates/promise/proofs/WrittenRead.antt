@@ -31,7 +31,8 @@ use Rattle.wire.specs.declared.Reply.the-variants.{Nothing, One, Two}
 use Rattle.wire.proofs.Bounds.{message-short}
 use Rattle.wire.proofs.ReadBack as wire
 use Rattle.fill.specs.Slot.{Slot, isEntry}
-use Rattle.book.specs.Place.{sameExec, sameOrder, sameSymbol, sameSide, sameContents, byOrder, byExec, placeFill}
+use Rattle.book.specs.Place.{sameExec, sameSymbol, sameSide, sameContents, byOrder, byExec, placeFill}
+use Rattle.book.specs.Rows.{Row, firstFor}
 use Rattle.book.specs.Entries.{sameKey, byKey, placeEntry}
 use Rattle.book.specs.Admitting.{place, hasRoom}
 use Rattle.book.specs.declared.Placed.{Placed}
@@ -168,19 +169,19 @@ order-small f none = tt
 order-small f (some k) =
     of-cond SmallPlaced (sameSymbol f k) (λ _. of-cond SmallPlaced (sameSide f k) (λ _. tt) (λ _. (omega arith, omega arith))) (λ _. (omega arith, omega arith))
 
-exec-small : (ss : List Slot) (f : Slot) (o : Option Slot) → SmallPlaced (byExec ss f o)
+exec-small : (known : Option Slot) (f : Slot) (o : Option Slot) → SmallPlaced (byExec f known o)
 unfolding byExec
-exec-small ss f none = order-small f (find (sameOrder f) ss)
-exec-small ss f (some k) = of-cond SmallPlaced (sameContents f k) (λ _. tt) (λ _. (omega arith, omega arith))
+exec-small known f none = order-small f known
+exec-small known f (some k) = of-cond SmallPlaced (sameContents f k) (λ _. tt) (λ _. (omega arith, omega arith))
 
 key-small : (e : Slot) (o : Option Slot) → SmallPlaced (byKey e o)
 unfolding byKey
 key-small e none = tt
 key-small e (some k) = of-cond SmallPlaced (same e k) (λ _. tt) (λ _. (omega arith, omega arith))
 
-place-small : (ss : List Slot) (s : Slot) → SmallPlaced (place ss s)
+place-small : (ss : List Slot) (rows : List Row) (s : Slot) → SmallPlaced (place ss rows s)
 unfolding place placeEntry placeFill
-place-small ss s = of-cond SmallPlaced (isEntry s) (λ _. key-small s (find (sameKey s) ss)) (λ _. exec-small ss s (findLast (sameExec s) ss))
+place-small ss rows s = of-cond SmallPlaced (isEntry s) (λ _. key-small s (find (sameKey s) ss)) (λ _. exec-small (firstFor ss rows s) s (findLast (sameExec s) ss))
 
 kept-small : (tag : ℕ) (kept : Bool) → tag < 1000 → SmallIf (unlessKept tag kept)
 kept-small tag kept h = of-cond SmallIf kept (λ _. tt) (λ _. (omega arith, omega arith))
@@ -243,7 +244,7 @@ module _ (setup : Setup) (st : State) (time s : List ℕ) (ids : Agreed setup) (
     booked-replied : (f : Slot) → Does (withRoom st f)
     unfolding withRoom carriedOut booked
     booked-replied f =
-        of-cond Does (hasRoom (st .kept .slots) (st .kept .load) f)
+        of-cond Does (hasRoom (st .kept .slots) (st .kept .rows) (st .kept .load) f)
         (λ _. replies-nothing setup (st .kept .o) time (wordIn s (found.Framed len)) (booked st len f) refl (unrejected f))
         (λ _. quiet-replied (found.Framed len) (answer.Refused refusal.NoRoom) refl)
 
@@ -259,7 +260,7 @@ module _ (setup : Setup) (st : State) (time s : List ℕ) (ids : Agreed setup) (
 
       brought-replied : (f : Slot) → Does (becomes st (This n f))
       unfolding becomes
-      brought-replied f = placed-replied f (place (st .kept .slots) f) (place-small (st .kept .slots) f)
+      brought-replied f = placed-replied f (place (st .kept .slots) (st .kept .rows) f) (place-small (st .kept .slots) (st .kept .rows) f)
 
       ruled-replied : (r : Reported) → SmallReported r → Does (becomes st (ofReport (sessionOf st) (lookOf ps) n r))
       unfolding becomes ofReport

@@ -40,7 +40,7 @@ abbrev pub agreed : Setup
 agreed = record { ours = idWith (bytesOf "FIRM"); theirs = idWith (bytesOf "SPHR") }
 
 abbrev pub within : ℕ → ℕ → State
-within e o = record { phase = In; asked = 0; offered = 0; kept = record { e = e; o = o; slots = []; load = noLoad; acked = 0 } }
+within e o = record { phase = In; asked = 0; offered = 0; kept = record { e = e; o = o; slots = []; rows = []; load = noLoad; acked = 0; day = 0 } }
 
 abbrev pub worked : ℕ → ℕ → List ℕ → Did
 worked e o text =

@@ -58,12 +58,12 @@ pub record CrossedBookable (setup : Setup) (st : State) (s : List ℕ) (len : �
   pub turn : InTurn setup st (piecesOf (bodyIn len s)) kind.Report
   pub crossed : CrossedWell (piecesOf (bodyIn len s))
   pub alone : firstOf 442 (piecesOf (bodyIn len s)) ≡ none
-  pub new : place (st .kept .slots) (slotIn (piecesOf (bodyIn len s))) ≡ placed.New
+  pub new : place (st .kept .slots) (st .kept .rows) (slotIn (piecesOf (bodyIn len s))) ≡ placed.New
 
 -- any such report, in any such state, at any such time, is booked where there is room
 abbrev pub CrossedBooked : Setup → State → Lent → Tally → List ℕ → List ℕ → ℕ → Type 0
 CrossedBooked setup st b t time s len =
-    CrossedBookable setup st s len → hasRoom (st .kept .slots) (st .kept .load) (slotIn (piecesOf (bodyIn len s))) ≡ true → Unmet st b time
+    CrossedBookable setup st s len → hasRoom (st .kept .slots) (st .kept .rows) (st .kept .load) (slotIn (piecesOf (bodyIn len s))) ≡ true → Unmet st b time
     → call setup st b t (Message time s) ≡ filledResult st t len (slotIn (piecesOf (bodyIn len s)))
 
 -- ---- all that it moved
@@ -131,8 +131,8 @@ pub record WouldBook (rules : Values → Option Fault) (setup : Setup) (phase : 
   pub within : e ≤ 999999999
   pub sent : o ≡ q .o
   pub told : Tells rules setup phase o s
-  pub new : place (q .slots) s ≡ placed.New
-  pub room : hasRoom (q .slots) (q .load) s ≡ true
+  pub new : place (q .slots) (q .rows) s ≡ placed.New
+  pub room : hasRoom (q .slots) (q .rows) (q .load) s ≡ true
 
 -- a restart takes a note of a fill exactly where that is so, by the rules of now and by document 01's: the request left it the function that it was
 pub record SameRestart (setup : Setup) (phase : Phase) (q : Kept) (e o : ℕ) (s : Slot) : Type 0 where

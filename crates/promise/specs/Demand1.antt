@@ -59,7 +59,7 @@ numbersUsed st w = sortOf w .lent .reply && ltb 999999997 (st .kept .o)
 
 -- "5: no room": a framed message in its turn that brings a fill or an entry, which would be booked but for room
 abbrev pub unplaced : State → Slot → Bool
-unplaced st s = isNew (place (st .kept .slots) s) && not (hasRoom (st .kept .slots) (st .kept .load) s)
+unplaced st s = isNew (place (st .kept .slots) (st .kept .rows) s) && not (hasRoom (st .kept .slots) (st .kept .rows) (st .kept .load) s)
 
 abbrev pub crowdedBy : State → Brings → Bool
 crowdedBy st (Nothing j) = false
@@ -138,7 +138,7 @@ pub record Demand1 (setup : Setup) (st : State) (b : Lent) (t : Tally) (w : What
       → Unchanged s book reply note line (call setup st b t w .did)
   -- "no room" is given exactly for a framed report or correction in its turn that would be booked but for room, where no row above it holds
   pub room : (time s : List ℕ) → w ≡ Message time s → (refusedWith (call setup st b t w .did .answer) ≡ some refusal.NoRoom)
-      ↔ ((firstThere (above5 st b w) ≡ none) × ((len : ℕ) × (f : Slot) × Bringing setup st s len f × (hasRoom (st .kept .slots) (st .kept .load) f ≡ false)))
+      ↔ ((firstThere (above5 st b w) ≡ none) × ((len : ℕ) × (f : Slot) × Bringing setup st s len f × (hasRoom (st .kept .slots) (st .kept .rows) (st .kept .load) f ≡ false)))
   -- "unlawful note" exactly where `restart` finds one, with the place that it finds
   pub note : (notes : List ℕ) (at : ℕ) → w ≡ Restart notes → (refusedWith (call setup st b t w .did .answer) ≡ some (refusal.Unlawful at)) ↔ (restart notes ≡ Unlawful at)
 

@@ -11,18 +11,19 @@ use Rattle.frame.specs.declared.Found.the-variants as found
 use Rattle.field.specs.Pieces.{Pieces, piecesOf, firstOf}
 use Rattle.table.specs.Rows.{kindIn}
 use Rattle.table.specs.Steps.{faultIn}
-use Rattle.answer.specs.Numbers.{inside}
+use Rattle.answer.specs.Numbers.{inside, counted}
 use Rattle.answer.specs.declared.Setup.{Setup}
 use Rattle.answer.specs.declared.Kind.{Kind}
 use Rattle.answer.specs.declared.Kind.the-variants as kind
 use Rattle.answer.specs.declared.Outcome.{Outcome}
 use Rattle.answer.specs.declared.Outcome.the-variants.{Booked, Entered}
-use Rattle.fill.specs.Slot.{Slot}
-use Rattle.book.specs.Place.{inStep}
-use Rattle.book.specs.Admitting.{place, hasRoom, withFill, withEntry}
+use Rattle.fill.specs.Slot.{Slot, sharesOf}
+use Rattle.book.specs.Rows.{Row, isKnown, moreOf}
+use Rattle.book.specs.Admitting.{place, hasRoom, inStep, withFill, withEntry}
 use Rattle.book.specs.declared.Load.{Load}
 use Rattle.book.specs.declared.Placed.the-variants as placed
 use Rattle.note.specs.Notes.{Books}
+use Rattle.note.specs.Kept.{Kept}
 use Rattle.report.specs.Report.{reportIn, slotIn, ruleFault}
 use Rattle.report.specs.Correction.{entryIn}
 use Rattle.report.specs.Carried.{Carries, Enters}
@@ -48,7 +49,7 @@ pub record InTurn (setup : Setup) (st : State) (ps : Pieces) (k : Kind) : Type 0
 pub record Fresh (st : State) (ps : Pieces) : Type 0 where
   pub rules : ruleFault (reportIn ps) ≡ none
   pub aside : firstOf 442 ps ≡ none
-  pub new : place (st .kept .slots) (slotIn ps) ≡ placed.New
+  pub new : place (st .kept .slots) (st .kept .rows) (slotIn ps) ≡ placed.New
 
 -- the bytes s begin with a framed message of len bytes, a report that is booked if there is room
 pub record Bookable (setup : Setup) (st : State) (s : List ℕ) (len : ℕ) : Type 0 where
@@ -60,7 +61,7 @@ pub record Bookable (setup : Setup) (st : State) (s : List ℕ) (len : ℕ) : Ty
 pub record Enterable (setup : Setup) (st : State) (s : List ℕ) (len : ℕ) : Type 0 where
   pub framed : foundIn s ≡ found.Framed len
   pub turn : InTurn setup st (piecesOf (bodyIn len s)) kind.Correction
-  pub new : place (st .kept .slots) (entryIn (piecesOf (bodyIn len s))) ≡ placed.New
+  pub new : place (st .kept .slots) (st .kept .rows) (entryIn (piecesOf (bodyIn len s))) ≡ placed.New
 
 -- either of them, and the slot that it brings
 pub data Bringing (setup : Setup) (st : State) (s : List ℕ) (len : ℕ) : Slot → Type 0 where
@@ -76,8 +77,8 @@ pub record Unmet (st : State) (b : Lent) (time : List ℕ) : Type 0 where
   pub numbers : st .kept .o ≤ 999999997
 
 -- what is then done: "Then it is booked and numbered from 1"; E rises by 1, O stays, the slot is the last of the day's, nothing is written but the note F or C
-abbrev pub bookedResult : State → Tally → ℕ → Slot → Load → Outcome → Result
-bookedResult st t len f load o = record {
+abbrev pub bookedResult : State → Tally → ℕ → Slot → List Row → Load → ℕ → Outcome → Result
+bookedResult st t len f rows load day o = record {
   did = record {
     answer = Framed len o;
     next = record {
@@ -88,8 +89,10 @@ bookedResult st t len f load o = record {
         e = st .kept .e + 1;
         o = st .kept .o;
         slots = st .kept .slots ++ (f ∷ []);
+        rows = rows;
         load = load;
         acked = st .kept .acked;
+        day = day;
       };
     };
     reply = [];
@@ -99,19 +102,22 @@ bookedResult st t len f load o = record {
   tally = tallied (countOf o) t;
 }
 
--- a fill, and whether it is in step; an entry, of which no order knows
+-- a fill, and whether it is in step: its contracts wait, in its order's row and for the day; an entry, of which no order knows
 abbrev pub filledResult : State → Tally → ℕ → Slot → Result
 filledResult st t len f =
-    bookedResult st t len f (withFill (st .kept .slots) (st .kept .load) f) (Booked (length (st .kept .slots) + 1) (inStep (st .kept .slots) f))
+    let q : Kept = st .kept in
+    bookedResult st t len f (moreOf (q .slots) (q .rows) f) (withFill (isKnown (q .slots) (q .rows) f) (q .load) f) (counted (q .day) (sharesOf f))
+    (Booked (length (q .slots) + 1) (inStep (q .slots) (q .rows) f))
 
 abbrev pub enteredResult : State → Tally → ℕ → Slot → Result
-enteredResult st t len e = bookedResult st t len e (withEntry (st .kept .load)) (Entered (length (st .kept .slots) + 1))
+enteredResult st t len e =
+    bookedResult st t len e (st .kept .rows) (withEntry (st .kept .load)) (st .kept .day) (Entered (length (st .kept .slots) + 1))
 
 -- any such message, in any such state, at any such time, where there is room
 pub record Demand2 (setup : Setup) (st : State) (b : Lent) (t : Tally) (time s : List ℕ) (len : ℕ) : Type 0 where
-  pub booked : Bookable setup st s len → hasRoom (st .kept .slots) (st .kept .load) (slotIn (piecesOf (bodyIn len s))) ≡ true → Unmet st b time
+  pub booked : Bookable setup st s len → hasRoom (st .kept .slots) (st .kept .rows) (st .kept .load) (slotIn (piecesOf (bodyIn len s))) ≡ true → Unmet st b time
       → call setup st b t (Message time s) ≡ filledResult st t len (slotIn (piecesOf (bodyIn len s)))
   pub carries : Bookable setup st s len → Carries (piecesOf (bodyIn len s)) (slotIn (piecesOf (bodyIn len s)))
-  pub entered : Enterable setup st s len → hasRoom (st .kept .slots) (st .kept .load) (entryIn (piecesOf (bodyIn len s))) ≡ true → Unmet st b time
+  pub entered : Enterable setup st s len → hasRoom (st .kept .slots) (st .kept .rows) (st .kept .load) (entryIn (piecesOf (bodyIn len s))) ≡ true → Unmet st b time
       → call setup st b t (Message time s) ≡ enteredResult st t len (entryIn (piecesOf (bodyIn len s)))
   pub enters : Enterable setup st s len → Enters (piecesOf (bodyIn len s)) (entryIn (piecesOf (bodyIn len s)))

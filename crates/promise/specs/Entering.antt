@@ -9,7 +9,9 @@ use Rattle.field.specs.Pieces.{Pieces}
 use Rattle.answer.specs.declared.Setup.{Setup}
 use Rattle.answer.specs.declared.Outcome.the-variants.{Booked}
 use Rattle.fill.specs.Slot.{Slot, isEntry}
-use Rattle.book.specs.Place.{sameExec, sameOrder, sumWhere, placeFill, inStep}
+use Rattle.book.specs.Place.{sameExec, sameOrder, sumWhere, placeFill}
+use Rattle.book.specs.Rows.{Row, firstFor, rowsWith, dayWith}
+use Rattle.book.specs.Admitting.{inStep}
 use Rattle.book.specs.Orders.{ordersOf, fillsOf}
 use Rattle.session.specs.Session.{raised}
 use Rattle.receiver.specs.State.{State, sessionOf, withSession}
@@ -22,9 +24,12 @@ pub record Apart (ss : List Slot) (e : Slot) : Type 0 where
   -- its order's first fill is the same, so its symbol, its side and what was carried in; and so is its booked sum
   pub order : (f : Slot) → find (sameOrder f) (ss ++ (e ∷ [])) ≡ find (sameOrder f) ss
   pub sum : (f : Slot) → sumWhere (sameOrder f) (ss ++ (e ∷ [])) ≡ sumWhere (sameOrder f) ss
-  -- it is placed as before, and in step as before
-  pub placed : (f : Slot) → placeFill (ss ++ (e ∷ [])) f ≡ placeFill ss f
-  pub stepped : (f : Slot) → inStep (ss ++ (e ∷ [])) f ≡ inStep ss f
+  -- whatever the order rows, it is placed as before, and in step as before
+  pub placed : (rows : List Row) (f : Slot) → placeFill (ss ++ (e ∷ [])) (firstFor (ss ++ (e ∷ [])) rows f) f ≡ placeFill ss (firstFor ss rows f) f
+  pub stepped : (rows : List Row) (f : Slot) → inStep (ss ++ (e ∷ [])) rows f ≡ inStep ss rows f
+  -- no row is another's, and none waits for more: the day's sum neither
+  pub rows : (rows : List Row) → rowsWith ss rows e ≡ rows
+  pub day : (day : ℕ) → dayWith day e ≡ day
   -- no order is made, and no fill
   pub orders : ordersOf (ss ++ (e ∷ [])) ≡ ordersOf ss
   pub fills : fillsOf (ss ++ (e ∷ [])) ≡ fillsOf ss
@@ -41,5 +46,5 @@ pub record Later (st : State) (e : Slot) : Type 0 where
   pub becomes′ : (n : ℕ) (f : Slot) → isEntry f ≡ false → becomes (withSlot st e) (This n f) ≡ becomes (afterHearing st) (This n f)
   -- and is answered the same but for its number
   pub answered : (f : Slot) → isEntry f ≡ false
-      → (bookedAs (afterHearing st) f ≡ Booked (length (st .kept .slots) + 1) (inStep (st .kept .slots) f))
-      × (bookedAs (withSlot st e) f ≡ Booked (length (st .kept .slots) + 2) (inStep (st .kept .slots) f))
+      → (bookedAs (afterHearing st) f ≡ Booked (length (st .kept .slots) + 1) (inStep (st .kept .slots) (st .kept .rows) f))
+      × (bookedAs (withSlot st e) f ≡ Booked (length (st .kept .slots) + 2) (inStep (st .kept .slots) (st .kept .rows) f))

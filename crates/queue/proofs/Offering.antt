@@ -17,7 +17,8 @@ use Rattle.answer.specs.declared.Refusal.the-variants as refusal
 use Rattle.fill.specs.Slot.{Slot, lineLeast}
 use Rattle.fill.specs.Booked.{lineOf}
 use Rattle.book.specs.Memory.{slotsIn, slotAt}
-use Rattle.book.proofs.Slots.{slots-step, slots-end}
+use Rattle.book.specs.Rows.{dayWithout}
+use Rattle.book.proofs.Regions.{slots-step, slots-end}
 use Rattle.answer.specs.declared.Setup.{Setup}
 use Rattle.note.specs.Kinds.{noteLeast}
 use Rattle.note.specs.Notes.{Acks, noteBytes}
@@ -27,7 +28,7 @@ use Rattle.queue.specs.declared.Offer.the-variants as offer
 use Rattle.queue.specs.declared.Acknowledged.{Acknowledged}
 use Rattle.queue.specs.declared.Acknowledged.the-variants as acknowledged
 use Rattle.queue.specs.declared.Day.the-variants as day
-use Rattle.queue.specs.Queue.{noMarks, offeredUpTo, ackedUpTo, shortLine, nextOffer, givenLine, offered, writtenLine, lineAfter, begunAgain, acknowledgedBy, notedBy, noteAfter, newDay}
+use Rattle.queue.specs.Queue.{noMarks, offeredUpTo, ackedUpTo, shortLine, nextOffer, givenLine, offered, writtenLine, lineAfter, begunAgain, takenBy, acknowledgedBy, notedBy, noteAfter, takenOff, bookedBy, bookAfter, newDay}
 
 -- ---- offer, case by case: the answer and the line
 module _ (setup : Setup) (m : Marks) (ss : List Slot) (line : List ℕ) where
@@ -69,32 +70,37 @@ module _ (setup : Setup) (m : Marks) (book line : List ℕ) where
       let whole : len ≡ length (lineOf n s) = en ∙ cond-true (fitsAt line 0 (lineOf n x)) (length (lineOf n x)) 0 (fits-true line 0 (lineOf n x) fits) ∙ ap (λ (y : Slot). length (lineOf n y)) ex in
       (ap (offer.Given (offeredUpTo n m)) whole ∙ g .0, el ∙ ap (λ (y : Slot). splice line 0 (lineOf n y)) ex ∙ g .1)
 
--- ---- acknowledge, case by case: the answer and the note
-module _ (setup : Setup) (m : Marks) (n : ℕ) (note : List ℕ) where
-  abbrev pub Acked : Acknowledged → List ℕ → Type 0
-  Acked r l = (r ≡ acknowledgedBy setup m n (length note)) × (l ≡ noteAfter setup m n note)
+-- ---- acknowledge, case by case: the answer, the book and the note
+module _ (setup : Setup) (m : Marks) (n : ℕ) (book note : List ℕ) where
+  abbrev ss : List Slot
+  ss = slotsIn (m .last) book
 
-  by-answer : (r : Acknowledged) → acknowledgedBy setup m n (length note) ≡ r → Acked r (notedBy note n r)
-  unfolding noteAfter
-  by-answer r e = (sym e, sym (ap (notedBy note n) e))
+  abbrev pub Acked : Acknowledged → List ℕ → List ℕ → Type 0
+  Acked r b l = (r ≡ acknowledgedBy setup m ss n (length note)) × (b ≡ bookAfter setup m n book (length note)) × (l ≡ noteAfter setup m ss n note)
 
-  pub ack-short : length note < noteLeast setup → Acked (acknowledged.Refused refusal.ShortBuffer) note
+  by-answer : (r : Acknowledged) → acknowledgedBy setup m ss n (length note) ≡ r → Acked r (bookedBy m n book r) (notedBy note n r)
+  unfolding noteAfter bookAfter
+  by-answer r e = (sym e, sym (ap (bookedBy m n book) e), sym (ap (notedBy note n) e))
+
+  pub ack-short : length note < noteLeast setup → Acked (acknowledged.Refused refusal.ShortBuffer) book note
   unfolding acknowledgedBy
   ack-short h = by-answer (acknowledged.Refused refusal.ShortBuffer) (rw (lt-ltb (length note) (noteLeast setup) h))
 
-  pub ack-above : noteLeast setup ≤ length note → m .offered < n → Acked (acknowledged.Refused refusal.NotOffered) note
+  pub ack-above : noteLeast setup ≤ length note → m .offered < n → Acked (acknowledged.Refused refusal.NotOffered) book note
   unfolding acknowledgedBy
   ack-above h k = by-answer (acknowledged.Refused refusal.NotOffered) (rw (le-ltb (length note) (noteLeast setup) h, lt-ltb (m .offered) n k))
 
-  pub ack-already : noteLeast setup ≤ length note → n ≤ m .offered → n ≤ m .acked → Acked acknowledged.Already note
+  pub ack-already : noteLeast setup ≤ length note → n ≤ m .offered → n ≤ m .acked → Acked acknowledged.Already book note
   unfolding acknowledgedBy
   ack-already h k l =
       by-answer acknowledged.Already (rw (le-ltb (length note) (noteLeast setup) h, le-ltb (m .offered) n k, le-leb n (m .acked) l))
 
-  pub ack-taken : noteLeast setup ≤ length note → n ≤ m .offered → m .acked < n → Acked (acknowledged.Taken (ackedUpTo n m)) (splice note 0 (noteBytes (Acks n)))
+  pub ack-taken : noteLeast setup ≤ length note → n ≤ m .offered → m .acked < n
+      → Acked (acknowledged.Taken (ackedUpTo n (dayWithout (m .day) (takenBy m n ss)) m)) (takenOff m n book) (splice note 0 (noteBytes (Acks n)))
   unfolding acknowledgedBy
   ack-taken h k l =
-      by-answer (acknowledged.Taken (ackedUpTo n m)) (rw (le-ltb (length note) (noteLeast setup) h, le-ltb (m .offered) n k, lt-leb n (m .acked) l))
+      by-answer (acknowledged.Taken (ackedUpTo n (dayWithout (m .day) (takenBy m n ss)) m))
+      (rw (le-ltb (length note) (noteLeast setup) h, le-ltb (m .offered) n k, lt-leb n (m .acked) l))
 
 -- ---- new day
 pub day-waiting : (m : Marks) → m .acked < m .last → day.Refused refusal.StillWaiting ≡ newDay m
@@ -113,8 +119,8 @@ pub waiting-nth : (m : Marks) (ss : List Slot) (i : ℕ) → getD (waitingOf m s
 waiting-nth m ss i = getD-drop (m .acked) ss i []
 
 -- an acknowledge that is taken takes all slots up to n, and leaves the others in their order
-pub waiting-after : (m : Marks) (ss : List Slot) (n : ℕ) → waitingOf (ackedUpTo n m) ss ≡ drop n ss
-waiting-after m ss n = refl
+pub waiting-after : (m : Marks) (ss : List Slot) (n day : ℕ) → waitingOf (ackedUpTo n day m) ss ≡ drop n ss
+waiting-after m ss n day = refl
 
 -- ---- offers, one after another
 abbrev pub marksAfter : Marks → Offer → Marks

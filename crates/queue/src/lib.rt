@@ -1,6 +1,7 @@
-// The queue to the ledger host: offer, begin-again, acknowledge, new day. Marks by value, the fills and entries in the lent book, under the
-// numbers of one queue.
+// The queue to the ledger host: offer, begin-again, acknowledge, new day. Marks by value, the fills, entries and order rows in the lent book,
+// under the numbers of one queue.
 ghost use mathlib.Core.Path.{_≡_};
+ghost use Rattle.book.specs.Memory.{TakesOff};
 ghost use Rattle.queue.specs.Queue.{noMarks, marksAgain, oneMore, offeredUpTo, ackedUpTo, Offers, begunAgain, Acknowledges, newDay};
 use answer::Refusal;
 use answer::Setup;
@@ -8,13 +9,14 @@ use book::BOOK;
 use book::Load;
 use book::NO_LOAD;
 
-// The last number given, as many slots the day has; how many fills, orders and entries these are; and the marks: the last number
-// acknowledged, and the last offered.
+// The last number given, as many slots the day has; how many fills, orders and entries these are; the marks: the last number
+// acknowledged, and the last offered; and the contracts waiting for the day.
 pub struct Marks {
     pub last: u32,
     pub load: Load,
     pub acked: u32,
     pub offered: u32,
+    pub day: u32,
 }
 
 // What an offer answers: the marks after it and how long the line is; that there is no such slot; or a refusal.
@@ -45,30 +47,33 @@ impl Marks {
             load: NO_LOAD,
             acked: 0,
             offered: 0,
+            day: 0,
         }
     }
 
     // After a restart: "offered equals acknowledged".
-    pub fn again(last: u32, load: Load, acked: u32) -> Marks
-        ensures { λ r. ⌜ r ≡ marksAgain last load acked ⌝ }
+    pub fn again(last: u32, load: Load, acked: u32, day: u32) -> Marks
+        ensures { λ r. ⌜ r ≡ marksAgain last load acked day ⌝ }
     {
         Marks {
             last,
             load,
             acked,
             offered: acked,
+            day,
         }
     }
 
-    // One number more is given; load is what there are then.
-    pub fn one_more(self, load: Load) -> Marks
-        ensures { λ r. ⌜ r ≡ oneMore load self ⌝ }
+    // One number more is given; load is what there are then, and day what waits.
+    pub fn one_more(self, load: Load, day: u32) -> Marks
+        ensures { λ r. ⌜ r ≡ oneMore load day self ⌝ }
     {
         Marks {
             last: answer::count_on(self.last, 1),
             load,
             acked: self.acked,
             offered: self.offered,
+            day,
         }
     }
 
@@ -82,11 +87,12 @@ impl Marks {
             load,
             acked: self.acked,
             offered: n,
+            day: self.day,
         }
     }
 
-    fn acked_up_to(self, n: u32) -> Marks
-        ensures { λ r. ⌜ r ≡ ackedUpTo n self ⌝ }
+    fn acked_up_to(self, n: u32, day: u32) -> Marks
+        ensures { λ r. ⌜ r ≡ ackedUpTo n day self ⌝ }
     {
         let load = self.load;
         Marks {
@@ -94,6 +100,7 @@ impl Marks {
             load,
             acked: n,
             offered: self.offered,
+            day,
         }
     }
 
@@ -120,8 +127,23 @@ impl Marks {
         self.offered_up_to(self.acked)
     }
 
+    // What is left of the day's sum where the slots up to n are acknowledged; what they have is taken off the rows in the book.
+    fn take_off(self, book: &mut [u8; BOOK], n: u32) -> u32
+        ensures { λ r. ⌜ TakesOff (now (book .entry)) (self .last) (self .load .orders) (self .acked) n (self .day) r (now (book .exit)) ⌝ }
+    {
+        let load = self.load;
+        book::take_off(
+            book,
+            self.last as usize,
+            load.orders as usize,
+            self.acked as usize,
+            n as usize,
+            self.day,
+        )
+    }
+
     // "Acknowledge n takes all fills up to n; n at or below the mark is already, no change." It is refused above the offered
-    // mark. The slots stay where they are.
+    // mark. The slots stay where they are; their contracts wait no longer.
     pub fn acknowledge(
         self,
         setup: Setup,
@@ -141,7 +163,8 @@ impl Marks {
             return Acknowledged::Already;
         }
         note::put_acks(note, n);
-        Acknowledged::Taken(self.acked_up_to(n))
+        let day = self.take_off(book, n);
+        Acknowledged::Taken(self.acked_up_to(n, day))
     }
 
     // "New day (.. nothing waiting) gives the fresh, empty state." What is in the lent book is then of no slot.

@@ -10,25 +10,30 @@ use lib.ListN.{length, drop, length-append, length-drop}
 use lib.Seq.{drop-drop}
 use lib.Dec.{leb, ltb, eqb}
 use Rattle.octet.proofs.Cases.{cond-true, cond-false, of-cond, and-no-left, bool-case}
-use Rattle.octet.proofs.Lists.{drop-done}
+use Rattle.octet.specs.Bytes.{joined}
+use Rattle.octet.proofs.Lists.{drop-done, splice-length}
 use Rattle.answer.specs.Numbers.{largest, nineDigits}
-use Rattle.fill.specs.Slot.{Slot}
+use Rattle.fill.specs.Slot.{Slot, slotWidth, isEntry}
 use Rattle.fill.specs.Booked.{slotLawful}
-use Rattle.book.specs.Memory.{mostSlots, bookWidth, slotsIn, appended, holding}
-use Rattle.book.specs.Place.{isNew}
-use Rattle.book.specs.Admitting.{place, hasRoom, loadWith, bookingOf, admitOf}
+use Rattle.book.specs.Memory.{mostSlots, bookWidth, regionOf, slotsHere, rowsHere, slotsIn, rowsIn, laid, entered, holding, between, TakesOff}
+use Rattle.book.specs.Rows.{Row, rowWidth, rowPlace, dayWith, rowsWithout, dayWithout}
+use Rattle.book.specs.Place.{isNew, mostOrders}
+use Rattle.book.specs.Admitting.{place, hasRoom, noLoad, loadWith, bookingOf, admitOf}
 use Rattle.book.specs.declared.Admitted.{Admitted}
 use Rattle.book.specs.declared.Load.{Load}
 use Rattle.book.proofs.Placing.{has-room, booking-load}
-use Rattle.book.proofs.Slots.{slots-length, slots-append, appended-length, Wide, none-wide, more-wide, holding-slots}
+use Rattle.book.proofs.Cells.{cells-none, Wide, none-wide, more-wide}
+use Rattle.book.proofs.Regions.{slots-length, rows-length, holding-slots, holding-rows}
+use Rattle.book.proofs.Written.{entered-slots, entered-rows, entered-length, taken-slots, taken-read}
+use Rattle.book.proofs.Stored.{rows-are-wide}
 use Rattle.note.specs.Notes.{Note, Raises, Books, Acks, Clears, Reading, Whole, Part, Unknown, readNote, sizeTaken}
 use Rattle.note.specs.Kept.{Kept, empty, bookable, lawful, after}
-use Rattle.note.proofs.Keeping.{Slotted, read-is, lawful-books, bookable-facts, AllSlots, Sound}
+use Rattle.note.proofs.Keeping.{Slotted, read-is, lawful-books, bookable-facts, AllSlots, Sound, rows-many}
 use Rattle.restart.specs.declared.Counts.{Counts}
 use Rattle.restart.specs.declared.Step.{Step}
 use Rattle.restart.specs.declared.Step.the-variants as step
 use Rattle.restart.specs.declared.Restarted.the-variants as restarted
-use Rattle.restart.specs.Restart.{Outcome, Again, Unlawful, restart, countsOf, told, bookAfter, HasSlots, loadIn}
+use Rattle.restart.specs.Restart.{Outcome, Again, Unlawful, restart, countsOf, told, bookAfter, HasDay, loadIn}
 use Rattle.restart.specs.Steps.{keptIn, bare, isNext, stepNote, stepRead, memNote, memRead}
 use Rattle.restart.proofs.Going.{go, restart-go, go-end, go-part, go-unknown, go-bad, go-on, some-taken, GivenIn}
 
@@ -55,71 +60,70 @@ module _ (q : Kept) where
   unfolding stepNote
   step-yes n k t e = ap step.On e ∙ sym (cond-true (lawful q n) (step.On (countsOf (after q n))) step.Bad (sym t))
 
-pub bookable-by : (ss : List Slot) (load : Load) (s : Slot) {a b c : Bool} → slotLawful s ≡ a → isNew (place ss s) ≡ b → hasRoom ss load s ≡ c
-    → a && b && c ≡ bookable ss load s
+pub bookable-by : (ss : List Slot) (rows : List Row) (load : Load) (s : Slot) {a b c : Bool} → slotLawful s ≡ a → isNew (place ss rows s) ≡ b → hasRoom ss rows load s ≡ c
+    → a && b && c ≡ bookable ss rows load s
 unfolding bookable
-bookable-by ss load s ea eb ec = cc
+bookable-by ss rows load s ea eb ec = cc
 
 -- an F or a C note whose numbers are not the next, and one whose numbers are
 pub next-by : (m : Counts) (e o : ℕ) {a b c : Bool} → eqb e (m .e + 1) ≡ a → leb e nineDigits ≡ b → eqb o (m .o) ≡ c → a && b && c ≡ isNext m e o
 next-by m e o ea eb ec = cc
 
 -- what becomes of its slot, as the book is asked it
-pub admits : (m : Counts) (mem : List ℕ) (s : Slot) (k : ℕ) (r : Admitted) → k ≡ m .last → r ≡ admitOf (slotsIn k mem) (loadIn m) s → admitOf (slotsIn (m .last) mem) (loadIn m) s ≡ r
-admits m mem s k r e f = ap (λ (n : ℕ). admitOf (slotsIn n mem) (loadIn m) s) (sym e) ∙ sym f
+pub admits : (m : Counts) (mem : List ℕ) (s : Slot) (k : ℕ) (r : Admitted) → k ≡ m .last → r ≡ admitOf (slotsIn k mem) (rowsIn (m .orders) mem) (loadIn m) s
+    → admitOf (slotsIn (m .last) mem) (rowsIn (m .orders) mem) (loadIn m) s ≡ r
+admits m mem s k r e f = ap (λ (n : ℕ). admitOf (slotsIn n mem) (rowsIn (m .orders) mem) (loadIn m) s) (sym e) ∙ sym f
 
 module _ (m : Counts) (mem : List ℕ) (e o : ℕ) (s : Slot) where
   pub books-out : isNext m e o ≡ false → false ≡ lawful (keptIn m mem) (Books e o s)
   unfolding lawful
-  books-out h = sym (and-no-left (isNext m e o) (bookable (slotsIn (m .last) mem) (loadIn m) s) h)
+  books-out h = sym (and-no-left (isNext m e o) (bookable (slotsIn (m .last) mem) (rowsIn (m .orders) mem) (loadIn m) s) h)
 
-  pub books-next : {d : Bool} → isNext m e o ≡ true → d ≡ bookable (slotsIn (m .last) mem) (loadIn m) s → d ≡ lawful (keptIn m mem) (Books e o s)
+  pub books-next : {d : Bool} → isNext m e o ≡ true → d ≡ bookable (slotsIn (m .last) mem) (rowsIn (m .orders) mem) (loadIn m) s → d ≡ lawful (keptIn m mem) (Books e o s)
   unfolding lawful
-  books-next h f = f ∙ sym (ap (λ (a : Bool). a && bookable (slotsIn (m .last) mem) (loadIn m) s) h)
+  books-next h f = f ∙ sym (ap (λ (a : Bool). a && bookable (slotsIn (m .last) mem) (rowsIn (m .orders) mem) (loadIn m) s) h)
 
 -- ---- counts
-abbrev counts : ℕ → ℕ → ℕ → Load → ℕ → Counts
-counts e o last load acked = record { e = e; o = o; last = last; fills = load .fills; orders = load .orders; entries = load .entries; acked = acked }
+abbrev counts : ℕ → ℕ → ℕ → Load → ℕ → ℕ → Counts
+counts e o last load acked day =
+    record { e = e; o = o; last = last; fills = load .fills; orders = load .orders; entries = load .entries; acked = acked; day = day }
 
-abbrev kept : ℕ → ℕ → List Slot → Load → ℕ → Kept
-kept e o slots load acked = record { e = e; o = o; slots = slots; load = load; acked = acked }
+abbrev kept : ℕ → ℕ → List Slot → List Row → Load → ℕ → ℕ → Kept
+kept e o slots rows load acked day = record { e = e; o = o; slots = slots; rows = rows; load = load; acked = acked; day = day }
 
 module _ (m : Counts) (mem : List ℕ) where
   pub last-is : length (keptIn m mem .slots) ≡ m .last
   last-is = slots-length (m .last) mem
 
   pub counts-kept : countsOf (keptIn m mem) ≡ m
-  counts-kept = ap (λ (n : ℕ). counts (m .e) (m .o) n (loadIn m) (m .acked)) last-is
+  counts-kept = ap (λ (n : ℕ). counts (m .e) (m .o) n (loadIn m) (m .acked) (m .day)) last-is
 
-  pub on-raises : (e o : ℕ) → counts e o (m .last) (loadIn m) (m .acked) ≡ countsOf (after (keptIn m mem) (Raises e o))
+  pub on-raises : (e o : ℕ) → counts e o (m .last) (loadIn m) (m .acked) (m .day) ≡ countsOf (after (keptIn m mem) (Raises e o))
   unfolding after
-  on-raises e o = ap (λ (n : ℕ). counts e o n (loadIn m) (m .acked)) (sym last-is)
+  on-raises e o = ap (λ (n : ℕ). counts e o n (loadIn m) (m .acked) (m .day)) (sym last-is)
 
-  pub on-acks : (k : ℕ) → counts (m .e) (m .o) (m .last) (loadIn m) k ≡ countsOf (after (keptIn m mem) (Acks k))
+  pub on-acks : (k day : ℕ) → day ≡ dayWithout (m .day) (between (m .acked) k (slotsIn (m .last) mem))
+      → counts (m .e) (m .o) (m .last) (loadIn m) k day ≡ countsOf (after (keptIn m mem) (Acks k))
   unfolding after
-  on-acks k = ap (λ (n : ℕ). counts (m .e) (m .o) n (loadIn m) k) (sym last-is)
+  on-acks k day e = ap₂ (λ (n d : ℕ). counts (m .e) (m .o) n (loadIn m) k d) (sym last-is) e
 
   pub on-clears : countsOf empty ≡ countsOf (after (keptIn m mem) Clears)
   unfolding after
   on-clears = refl
 
-  pub on-books : (e o : ℕ) (load : Load) (s : Slot) → load ≡ loadWith (slotsIn (m .last) mem) (loadIn m) s
-      → counts e o (m .last + 1) load (m .acked) ≡ countsOf (after (keptIn m mem) (Books e o s))
+  pub on-books : (e o day : ℕ) (load : Load) (s : Slot) → load ≡ loadWith (slotsIn (m .last) mem) (rowsIn (m .orders) mem) (loadIn m) s → day ≡ dayWith (m .day) s
+      → counts e o (m .last + 1) load (m .acked) day ≡ countsOf (after (keptIn m mem) (Books e o s))
   unfolding after
-  on-books e o load s g =
+  on-books e o day load s g d =
       let l : m .last + 1 ≡ length (slotsIn (m .last) mem ++ (s ∷ [])) = omega (arith, last-is, length-append (slotsIn (m .last) mem) (s ∷ [])) in
-      ap₂ (λ (n : ℕ) (x : Load). counts e o n x (m .acked)) l g
+      ap₂ (λ (n : ℕ) (x : Load). counts e o n x (m .acked) day) l g
+      ∙ ap (λ (x : ℕ). counts e o (length (slotsIn (m .last) mem ++ (s ∷ []))) (loadWith (slotsIn (m .last) mem) (rowsIn (m .orders) mem) (loadIn m) s) (m .acked) x) d
 
-  -- the steps of S, K and D go by the counts alone
+  -- the steps of S and D go by the counts alone
   pub any-raises : (e o : ℕ) → stepNote (bare m) (Raises e o) ≡ stepNote (keptIn m mem) (Raises e o)
   unfolding stepNote lawful after
   any-raises e o =
-      ap (λ (n : ℕ). cond (lawful (bare m) (Raises e o)) (step.On (counts e o n (loadIn m) (m .acked))) step.Bad) (slots-length (m .last) [] ∙ sym last-is)
-
-  pub any-acks : (k : ℕ) → stepNote (bare m) (Acks k) ≡ stepNote (keptIn m mem) (Acks k)
-  unfolding stepNote lawful after
-  any-acks k =
-      ap (λ (n : ℕ). cond (ltb (m .acked) k && leb k n) (step.On (counts (m .e) (m .o) n (loadIn m) k)) step.Bad) (slots-length (m .last) [] ∙ sym last-is)
+      ap (λ (n : ℕ). cond (lawful (bare m) (Raises e o)) (step.On (counts e o n (loadIn m) (m .acked) (m .day))) step.Bad) (slots-length (m .last) [] ∙ sym last-is)
 
   pub any-clears : stepNote (bare m) Clears ≡ stepNote (keptIn m mem) Clears
   unfolding stepNote lawful after
@@ -129,20 +133,31 @@ module _ (m : Counts) (mem : List ℕ) where
 -- ---- the counts and the memory after a lawful note are what is kept after it
 pub kept-after : (m : Counts) (mem : List ℕ) (note : Note) → length mem ≡ bookWidth → Slotted note → lawful (keptIn m mem) note ≡ true
     → keptIn (countsOf (after (keptIn m mem) note)) (memNote mem (keptIn m mem) note) ≡ after (keptIn m mem) note
-unfolding after memNote slotsIn
-kept-after m mem (Raises e o) l w t = ap (λ (n : ℕ). kept e o (slotsIn n mem) (loadIn m) (m .acked)) (last-is m mem)
+unfolding after memNote
+kept-after m mem (Raises e o) l w t = ap (λ (n : ℕ). kept e o (slotsIn n mem) (rowsIn (m .orders) mem) (loadIn m) (m .acked) (m .day)) (last-is m mem)
 kept-after m mem (Books e o s) l w t =
     let q = keptIn m mem in
     let ss = slotsIn (m .last) mem in
-    let room : length ss < mostSlots = has-room ss (loadIn m) s (bookable-facts ss (loadIn m) s (lawful-books q e o s t .3) .2) .slot-left in
+    let rows = rowsIn (m .orders) mem in
+    let room = bookable-facts ss rows (loadIn m) s (lawful-books q e o s t .3) .2 in
     let f : length ss ≡ m .last = last-is m mem in
     let n : length (ss ++ (s ∷ [])) ≡ m .last + 1 = omega (arith, length-append ss (s ∷ [])) in
-    let mem′ : cond (lawful q (Books e o s)) (appended mem (length ss) s) mem ≡ appended mem (m .last) s =
-    cond-true (lawful q (Books e o s)) (appended mem (length ss) s) mem t ∙ ap (λ (k : ℕ). appended mem k s) f in
-    ap (λ (x : List Slot). kept e o x (loadWith ss (loadIn m) s) (m .acked))
-    (ap₂ slotsIn n mem′ ∙ slots-append mem (m .last) s (omega arith) (w .wide) l)
-kept-after m mem (Acks k) l w t = ap (λ (n : ℕ). kept (m .e) (m .o) (slotsIn n mem) (loadIn m) k) (last-is m mem)
-kept-after m mem Clears l w t = refl
+    let row : ℕ = cond (isEntry s) 0 (rowPlace ss rows s) in
+    let mem′ : cond (lawful q (Books e o s)) (entered mem (length ss) (m .orders) row s) mem ≡ entered mem (m .last) (m .orders) row s =
+    cond-true (lawful q (Books e o s)) (entered mem (length ss) (m .orders) row s) mem t ∙ ap (λ (k : ℕ). entered mem k (m .orders) row s) f in
+    ap₂ (λ (x : List Slot) (y : List Row). kept e o x y (loadWith ss rows (loadIn m) s) (m .acked) (dayWith (m .day) s))
+    (ap₂ slotsIn n mem′ ∙ entered-slots mem l (m .last) (loadIn m) s (w .wide) (w .marked) room)
+    (ap (rowsIn (loadWith ss rows (loadIn m) s .orders)) mem′ ∙ entered-rows mem l (m .last) (loadIn m) s (w .wide) (w .marked) room)
+kept-after m mem (Acks k) l w t =
+    let ss = slotsIn (m .last) mem in
+    let rows = rowsIn (m .orders) mem in
+    let taken = between (m .acked) k ss in
+    let left : List Row = rowsWithout ss rows taken in
+    let mem′ : cond (lawful (keptIn m mem) (Acks k)) (laid rowsHere mem left) mem ≡ laid rowsHere mem left = cond-true (lawful (keptIn m mem) (Acks k)) (laid rowsHere mem left) mem t in
+    ap₂ (λ (x : List Slot) (y : List Row). kept (m .e) (m .o) x y (loadIn m) k (dayWithout (m .day) taken))
+    (ap₂ slotsIn (last-is m mem) mem′ ∙ taken-slots (m .last) (m .orders) taken mem (m .last) l)
+    (ap (rowsIn (m .orders)) mem′ ∙ taken-read (m .last) (m .orders) taken mem l)
+kept-after m mem Clears l w t = ap₂ (λ (x : List Slot) (y : List Row). kept 1 1 x y noLoad 0 0) (cells-none slotWidth (regionOf slotsHere mem)) (cells-none rowWidth (regionOf rowsHere mem))
 
 -- ---- what a step says of the whole restart
 never : {A : Type 0} → _≡_ {A = ℕ} 0 1 → A
@@ -201,17 +216,21 @@ module _ (m : Counts) (mem s : List ℕ) (at : ℕ) where
 
 -- ---- the end of a replay
 pub replay-ends : (o : Outcome) (m : Counts) (mem mem′ : List ℕ) (at : ℕ) → o ≡ Again (keptIn m mem) at → mem′ ≡ mem
-    → (restarted.Again m at ≡ told o) × HasSlots mem′ o
+    → (restarted.Again m at ≡ told o) × HasDay mem′ o
 replay-ends o m mem mem′ at e f =
     let w : slotsIn (length (slotsIn (m .last) mem)) mem′ ≡ slotsIn (m .last) mem = ap₂ slotsIn (last-is m mem) f in
-    (ap (λ (k : Counts). restarted.Again k at) (sym (counts-kept m mem)) ∙ sym (ap told e), subst (HasSlots mem′) (sym e) w)
+    let v : rowsIn (length (rowsIn (m .orders) mem)) mem′ ≡ rowsIn (m .orders) mem = ap₂ rowsIn (rows-length (m .orders) mem) f in
+    (ap (λ (k : Counts). restarted.Again k at) (sym (counts-kept m mem)) ∙ sym (ap told e), subst (HasDay mem′) (sym e) (w, v))
 
-pub replay-bad : (o : Outcome) (mem′ : List ℕ) (at : ℕ) → o ≡ Unlawful at → (restarted.Unlawful at ≡ told o) × HasSlots mem′ o
-replay-bad o mem′ at e = (sym (ap told e), subst (HasSlots mem′) (sym e) tt)
+pub replay-bad : (o : Outcome) (mem′ : List ℕ) (at : ℕ) → o ≡ Unlawful at → (restarted.Unlawful at ≡ told o) × HasDay mem′ o
+replay-bad o mem′ at e = (sym (ap told e), subst (HasDay mem′) (sym e) tt)
 
 pub start : (notes mem : List ℕ) (m : Counts) → m ≡ countsOf empty → restart notes ≡ go (keptIn m mem) 0 notes
-unfolding slotsIn
-start notes mem m e = restart-go notes ∙ ap (λ (k : Counts). go (keptIn k mem) 0 notes) (sym e)
+start notes mem m e =
+    restart-go notes
+    ∙ ap₂ (λ (x : List Slot) (y : List Row). go (kept 1 1 x y noLoad 0 0) 0 notes)
+    (sym (cells-none slotWidth (regionOf slotsHere mem))) (sym (cells-none rowWidth (regionOf rowsHere mem)))
+    ∙ ap (λ (k : Counts). go (keptIn k mem) 0 notes) (sym e)
 
 -- ---- a turn of the replay, at place `at` of the notes l, of which s is the rest, with o the answer
 module _ (l s : List ℕ) (o : Outcome) (m : Counts) (mem mem′ : List ℕ) (at : ℕ) where
@@ -230,17 +249,17 @@ module _ (l s : List ℕ) (o : Outcome) (m : Counts) (mem mem′ : List ℕ) (at
       )
 
   pub turn-end : s ≡ drop at l → o ≡ go (keptIn m mem) at (drop at l) → step.End ≡ stepRead (keptIn m mem) (readNote s) → mem′ ≡ memRead mem (keptIn m mem) (readNote s)
-      → (restarted.Again m at ≡ told o) × HasSlots mem′ o
+      → (restarted.Again m at ≡ told o) × HasDay mem′ o
   turn-end es eo t em =
       let g = end-goes m mem s at t in
       replay-ends o m mem mem′ at (eo ∙ ap (go (keptIn m mem) at) (sym es) ∙ g .0) (em ∙ g .1)
 
   pub turn-bad : s ≡ drop at l → o ≡ go (keptIn m mem) at (drop at l) → step.Bad ≡ stepRead (keptIn m mem) (readNote s)
-      → (restarted.Unlawful at ≡ told o) × HasSlots mem′ o
+      → (restarted.Unlawful at ≡ told o) × HasDay mem′ o
   turn-bad es eo t = replay-bad o mem′ at (eo ∙ ap (go (keptIn m mem) at) (sym es) ∙ bad-goes m mem s at t)
 
 pub turns-done : (l : List ℕ) (o : Outcome) (m : Counts) (mem : List ℕ) (at : ℕ) → o ≡ go (keptIn m mem) at (drop at l) → length l ≤ at
-    → (restarted.Again m at ≡ told o) × HasSlots mem o
+    → (restarted.Again m at ≡ told o) × HasDay mem o
 turns-done l o m mem at eo h =
     replay-ends o m mem mem at (eo ∙ ap (go (keptIn m mem) at) (drop-done l at h) ∙ go-end (keptIn m mem) at) refl
 
@@ -251,8 +270,11 @@ mem-length mem q Part = refl
 mem-length mem q Unknown = refl
 mem-length mem q (Whole (Raises e o) n) = refl
 mem-length mem q (Whole (Books e o s) n) =
-    of-cond (λ (l : List ℕ). length l ≡ length mem) (lawful q (Books e o s)) (λ t. appended-length mem (length (q .slots)) s) (λ t. refl)
-mem-length mem q (Whole (Acks k) n) = refl
+    of-cond (λ (l : List ℕ). length l ≡ length mem) (lawful q (Books e o s))
+    (λ t. entered-length mem (length (q .slots)) (q .load .orders) (cond (isEntry s) 0 (rowPlace (q .slots) (q .rows) s)) s) (λ t. refl)
+mem-length mem q (Whole (Acks k) n) =
+    of-cond (λ (l : List ℕ). length l ≡ length mem) (lawful q (Acks k))
+    (λ t. splice-length mem (rowsHere .at) (joined (rowsWithout (q .slots) (q .rows) (between (q .acked) k (q .slots))))) (λ t. refl)
 mem-length mem q (Whole Clears n) = refl
 
 -- ---- the step of a note that is read
@@ -269,9 +291,23 @@ pub mem-raises : (mem : List ℕ) (q : Kept) (e o : ℕ) → mem ≡ memNote mem
 unfolding memNote
 mem-raises mem q e o = refl
 
-pub mem-acks : (mem : List ℕ) (q : Kept) (n : ℕ) → mem ≡ memNote mem q (Acks n)
+-- what an acknowledge takes off, from the numbers that it was given
+pub taken-as : (mem : List ℕ) (m : Counts) (n last orders acked to r : ℕ) (mem′ : List ℕ) → last ≡ m .last → orders ≡ m .orders → acked ≡ m .acked → to ≡ n
+    → TakesOff mem last orders acked to (m .day) r mem′ → TakesOff mem (m .last) (m .orders) (m .acked) n (m .day) r mem′
+taken-as mem m n last orders acked to r mem′ el eo ea en t =
+    subst (λ (k : ℕ). TakesOff mem (m .last) (m .orders) (m .acked) k (m .day) r mem′) en
+    (subst (λ (k : ℕ). TakesOff mem (m .last) (m .orders) k to (m .day) r mem′) ea
+    (subst (λ (k : ℕ). TakesOff mem (m .last) k acked to (m .day) r mem′) eo
+    (subst (λ (k : ℕ). TakesOff mem k orders acked to (m .day) r mem′) el t)))
+
+pub mem-stays : (mem : List ℕ) (q : Kept) (n : ℕ) → false ≡ lawful q (Acks n) → mem ≡ memNote mem q (Acks n)
 unfolding memNote
-mem-acks mem q n = refl
+mem-stays mem q n t = sym (cond-false (lawful q (Acks n)) (laid rowsHere mem (rowsWithout (q .slots) (q .rows) (between (q .acked) n (q .slots)))) mem (sym t))
+
+pub mem-acks : (mem mem′ : List ℕ) (q : Kept) (n : ℕ) → true ≡ lawful q (Acks n) → mem′ ≡ laid rowsHere mem (rowsWithout (q .slots) (q .rows) (between (q .acked) n (q .slots)))
+    → mem′ ≡ memNote mem q (Acks n)
+unfolding memNote
+mem-acks mem mem′ q n t h = h ∙ sym (cond-true (lawful q (Acks n)) (laid rowsHere mem (rowsWithout (q .slots) (q .rows) (between (q .acked) n (q .slots)))) mem (sym t))
 
 pub mem-clears : (mem : List ℕ) (q : Kept) → mem ≡ memNote mem q Clears
 unfolding memNote
@@ -279,51 +315,76 @@ mem-clears mem q = refl
 
 pub mem-no : (mem : List ℕ) (q : Kept) (e o : ℕ) (s : Slot) → false ≡ lawful q (Books e o s) → mem ≡ memNote mem q (Books e o s)
 unfolding memNote
-mem-no mem q e o s t = sym (cond-false (lawful q (Books e o s)) (appended mem (length (q .slots)) s) mem (sym t))
+mem-no mem q e o s t =
+    sym (cond-false (lawful q (Books e o s)) (entered mem (length (q .slots)) (q .load .orders) (cond (isEntry s) 0 (rowPlace (q .slots) (q .rows) s)) s) mem (sym t))
 
 module _ (m : Counts) (mem : List ℕ) (e o : ℕ) (s : Slot) (t : true ≡ lawful (keptIn m mem) (Books e o s)) where
-  pub mem-yes : (mem′ : List ℕ) → mem′ ≡ appended mem (m .last) s → mem′ ≡ memNote mem (keptIn m mem) (Books e o s)
-  unfolding memNote
-  mem-yes mem′ h =
-      h ∙ ap (λ (k : ℕ). appended mem k s) (sym (last-is m mem))
-      ∙ sym (cond-true (lawful (keptIn m mem) (Books e o s)) (appended mem (length (slotsIn (m .last) mem)) s) mem (sym t))
+  abbrev ss : List Slot
+  ss = slotsIn (m .last) mem
 
-  room : hasRoom (slotsIn (m .last) mem) (loadIn m) s ≡ true
-  room = bookable-facts (slotsIn (m .last) mem) (loadIn m) s (lawful-books (keptIn m mem) e o s (sym t) .3) .2
+  abbrev rows : List Row
+  rows = rowsIn (m .orders) mem
+
+  pub mem-yes : (last orders row : ℕ) (mem′ : List ℕ) → last ≡ m .last → orders ≡ m .orders → row ≡ bookingOf ss rows (loadIn m) s .row → mem′ ≡ entered mem last orders row s
+      → mem′ ≡ memNote mem (keptIn m mem) (Books e o s)
+  unfolding memNote bookingOf
+  mem-yes last orders row mem′ el eo er h =
+      h
+      ∙ ap₂ (λ (k n : ℕ). entered mem k n row s) (el ∙ sym (last-is m mem)) eo
+      ∙ ap (λ (k : ℕ). entered mem (length ss) (m .orders) k s) er
+      ∙ sym (cond-true (lawful (keptIn m mem) (Books e o s)) (entered mem (length ss) (m .orders) (cond (isEntry s) 0 (rowPlace ss rows s)) s) mem (sym t))
+
+  room : hasRoom ss rows (loadIn m) s ≡ true
+  room = bookable-facts ss rows (loadIn m) s (lawful-books (keptIn m mem) e o s (sym t) .3) .2
 
   -- the counts stay in their range
   pub last-few : m .last < mostSlots
-  last-few = omega (arith, last-is m mem, has-room (slotsIn (m .last) mem) (loadIn m) s room .slot-left)
+  last-few = omega (arith, last-is m mem, has-room ss rows (loadIn m) s room .slot-left)
 
-  pub load-fits : m .fills ≤ largest → m .orders ≤ largest → m .entries ≤ largest
-      → bookingOf (slotsIn (m .last) mem) (loadIn m) s .load ≡ loadWith (slotsIn (m .last) mem) (loadIn m) s
-  load-fits hf ho he = booking-load (slotsIn (m .last) mem) (loadIn m) s hf ho he room
+  pub load-fits : m .fills ≤ largest → m .orders ≤ largest → m .entries ≤ largest → bookingOf ss rows (loadIn m) s .load ≡ loadWith ss rows (loadIn m) s
+  load-fits hf ho he = booking-load ss rows (loadIn m) s hf ho he room
 
--- ---- the used slots of the replay are copied into the book
+-- ---- the used slots and rows of the replay are copied into the book
 -- only they are written
-pub book-is : (o : Outcome) (book mem : List ℕ) (k : Counts) (whole : ℕ) → restarted.Again k whole ≡ told o → HasSlots mem o
-    → holding book (slotsIn (k .last) mem) ≡ bookAfter book o
-book-is (Again q w) book mem k whole e h =
+pub book-is : (o : Outcome) (book mem : List ℕ) (k : Counts) (whole most : ℕ) → restarted.Again k whole ≡ told o → GivenIn most o → HasDay mem o
+    → holding book (slotsIn (k .last) mem) (rowsIn (k .orders) mem) ≡ bookAfter book o
+book-is (Again q w) book mem k whole most e g h =
     let f : k ≡ countsOf q = cc in
-    ap (holding book) (ap (λ (x : Counts). slotsIn (x .last) mem) f ∙ h)
-book-is (Unlawful at) book mem k whole e h = never cc
+    ap₂ (holding book)
+    (ap (λ (x : Counts). slotsIn (x .last) mem) f ∙ h .0)
+    (ap (λ (x : Counts). rowsIn (x .orders) mem) f ∙ ap (λ (n : ℕ). rowsIn n mem) (sym (rows-many q (g .sound))) ∙ h .1)
+book-is (Unlawful at) book mem k whole most e g h = never cc
 
 pub book-stays : (o : Outcome) (book : List ℕ) (at : ℕ) → restarted.Unlawful at ≡ told o → book ≡ bookAfter book o
 book-stays (Again q w) book at e = never cc
 book-stays (Unlawful p) book at e = refl
 
 -- and stand there then
-slots-all-wide : (ss : List Slot) → AllSlots ss → Wide ss
+slots-all-wide : (ss : List Slot) → AllSlots ss → Wide slotWidth ss
 slots-all-wide [] h = none-wide
 slots-all-wide (s ∷ ss) h = more-wide (h .0 .wide) (slots-all-wide ss (h .1))
 
-pub book-slots : (q : Kept) (whole : ℕ) (book : List ℕ) → Sound q → length book ≡ bookWidth → slotsIn (length (q .slots)) (bookAfter book (Again q whole)) ≡ q .slots
-book-slots q whole book h l = holding-slots book (q .slots) (slots-all-wide (q .slots) (h .each)) (h .few) l
+module _ (q : Kept) (h : Sound q) where
+  pub kept-slots-wide : Wide slotWidth (q .slots)
+  kept-slots-wide = slots-all-wide (q .slots) (h .each)
 
-pub slots-there : (o : Outcome) (book book′ : List ℕ) (most : ℕ) → GivenIn most o → book′ ≡ bookAfter book o → length book ≡ bookWidth → HasSlots book′ o
-slots-there (Again q w) book book′ most g e l = ap (slotsIn (length (q .slots))) e ∙ book-slots q w book (g .sound) l
+  pub kept-rows-wide : Wide rowWidth (q .rows)
+  kept-rows-wide = subst (Wide rowWidth) (sym (h .rows-all)) (rows-are-wide (q .slots) (q .acked))
+
+  rows-few : length (q .rows) ≤ mostOrders
+  rows-few = omega (arith, rows-many q h, h .orders-few)
+
+  pub book-slots : (book : List ℕ) → length book ≡ bookWidth → slotsIn (length (q .slots)) (holding book (q .slots) (q .rows)) ≡ q .slots
+  book-slots book l = holding-slots book l (q .slots) (q .rows) kept-slots-wide kept-rows-wide (h .few) rows-few
+
+  pub book-rows : (book : List ℕ) → length book ≡ bookWidth → rowsIn (length (q .rows)) (holding book (q .slots) (q .rows)) ≡ q .rows
+  book-rows book l = holding-rows book l (q .slots) (q .rows) kept-slots-wide kept-rows-wide (h .few) rows-few
+
+pub slots-there : (o : Outcome) (book book′ : List ℕ) (most : ℕ) → GivenIn most o → book′ ≡ bookAfter book o → length book ≡ bookWidth → HasDay book′ o
+slots-there (Again q w) book book′ most g e l =
+    (ap (slotsIn (length (q .slots))) e ∙ book-slots q (g .sound) book l, ap (rowsIn (length (q .rows))) e ∙ book-rows q (g .sound) book l)
 slots-there (Unlawful at) book book′ most g e l = tt
 
-pub slots-none : (o : Outcome) (mem : List ℕ) (at : ℕ) → restarted.Unlawful at ≡ told o → HasSlots mem o
+pub slots-none : (o : Outcome) (mem : List ℕ) (at : ℕ) → restarted.Unlawful at ≡ told o → HasDay mem o
 slots-none (Again q w) mem at e = never cc
 slots-none (Unlawful p) mem at e = tt

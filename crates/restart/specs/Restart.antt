@@ -5,7 +5,7 @@ use mathlib.Core.List.{List}
 use mathlib.Core.Option.{Option, none, some}
 use mathlib.Core.Bool.{cond}
 use lib.ListN.{length, drop}
-use Rattle.book.specs.Memory.{slotsIn, holding}
+use Rattle.book.specs.Memory.{slotsIn, rowsIn, holding}
 use Rattle.book.specs.declared.Load.{Load}
 use Rattle.note.specs.Notes.{Reading, Whole, Part, Unknown, readNote}
 use Rattle.note.specs.Kept.{Kept, empty, lawful, after}
@@ -34,7 +34,7 @@ run (suc most) q at s = byRead q at (λ (r : Kept) (n : ℕ). run most r (at + n
 unfoldable pub restart : List ℕ → Outcome
 restart notes = run (length notes) empty 0 notes
 
--- ---- the code's answer, with the slots in the lent book: "Lent bytes past what is written stay"
+-- ---- the code's answer, with the slots and the rows in the lent book: "Lent bytes past what is written stay"
 
 abbrev pub countsOf : Kept → Counts
 countsOf q = record {
@@ -45,6 +45,7 @@ countsOf q = record {
   orders = q .load .orders;
   entries = q .load .entries;
   acked = q .acked;
+  day = q .day;
 }
 
 -- the load that they count
@@ -64,16 +65,16 @@ abbrev pub wholeIn : Restarted → ℕ
 wholeIn (restarted.Again counts whole) = whole
 wholeIn (restarted.Unlawful at) = 0
 
--- the book after it: only the used slots are written; "Nothing changes" where it is refused
+-- the book after it: only the used slots and rows are written; "Nothing changes" where it is refused
 abbrev pub bookAfter : List ℕ → Outcome → List ℕ
-bookAfter book (Again q whole) = holding book (q .slots)
+bookAfter book (Again q whole) = holding book (q .slots) (q .rows)
 bookAfter book (Unlawful at) = book
 
--- a memory has the slots of what a restart gives
-abbrev pub HasSlots : List ℕ → Outcome → Type 0
-HasSlots mem (Again q whole) = slotsIn (length (q .slots)) mem ≡ q .slots
-HasSlots mem (Unlawful at) = Unit
+-- a memory has the slots and the rows of what a restart gives
+abbrev pub HasDay : List ℕ → Outcome → Type 0
+HasDay mem (Again q whole) = (slotsIn (length (q .slots)) mem ≡ q .slots) × (rowsIn (length (q .rows)) mem ≡ q .rows)
+HasDay mem (Unlawful at) = Unit
 
 -- what a restart answers and leaves in the lent book
 abbrev pub Restarts : List ℕ → Outcome → Restarted → List ℕ → Type 0
-Restarts book o r book′ = (r ≡ told o) × (book′ ≡ bookAfter book o) × HasSlots book′ o
+Restarts book o r book′ = (r ≡ told o) × (book′ ≡ bookAfter book o) × HasDay book′ o

@@ -14,8 +14,8 @@ use book::BOOK;
 use book::Load;
 use note::Read;
 
-// What the notes keep but for the slots, which are in the lent book: last is the last number given, as many slots there are. The load is
-// here as three numbers: a struct in a struct would be copied with every note.
+// What the notes keep but for the slots and the order rows, which are in the lent book: last is the last number given, as many slots there
+// are, and day the contracts waiting. The load is here as three numbers: a struct in a struct would be copied with every note.
 pub struct Counts {
     pub e: u32,
     pub o: u32,
@@ -24,6 +24,7 @@ pub struct Counts {
     pub orders: u32,
     pub entries: u32,
     pub acked: u32,
+    pub day: u32,
 }
 
 // What is kept and how many bytes of the notes are whole; or the place of the first byte of an unlawful note.
@@ -37,6 +38,12 @@ pub enum Step {
     On(Counts),
     End,
     Bad,
+}
+
+fn wide(n: u32) -> usize
+    ensures { λ r. ⌜ (r ≡ n) × (r ≤ 4294967295) ⌝ }
+{
+    n as usize
 }
 
 // "S raises E or O".
@@ -82,12 +89,13 @@ fn step_raises(m: Counts, e: u32, o: u32) -> Step
         orders: m.orders,
         entries: m.entries,
         acked: m.acked,
+        day: m.day,
     })
 }
 
-// "K is above the mark and at most the last fill", or entry.
-fn step_acks(m: Counts, n: u32) -> Step
-    ensures { λ r. ⌜ r ≡ stepNote (bare m) (Acks n) ⌝ }
+// "K is above the mark and at most the last fill", or entry. What it acknowledges is taken off the sums.
+fn step_acks(mem: &mut [u8; BOOK], m: Counts, n: u32) -> Step
+    ensures { λ r. ⌜ Takes (now (mem .entry)) (keptIn m (now (mem .entry))) (Acks n) r (now (mem .exit)) ⌝ }
 {
     if n <= m.acked {
         return Step::Bad;
@@ -95,6 +103,14 @@ fn step_acks(m: Counts, n: u32) -> Step
     if m.last < n {
         return Step::Bad;
     }
+    let day = book::take_off(
+        mem,
+        wide(m.last),
+        wide(m.orders),
+        wide(m.acked),
+        wide(n),
+        m.day,
+    );
     Step::On(Counts {
         e: m.e,
         o: m.o,
@@ -103,6 +119,7 @@ fn step_acks(m: Counts, n: u32) -> Step
         orders: m.orders,
         entries: m.entries,
         acked: n,
+        day,
     })
 }
 
@@ -118,6 +135,7 @@ fn empty_counts() -> Counts
         orders: 0,
         entries: 0,
         acked: 0,
+        day: 0,
     }
 }
 
@@ -129,12 +147,6 @@ fn step_clears(m: Counts) -> Step
         return Step::Bad;
     }
     Step::On(empty_counts())
-}
-
-fn wide(n: u32) -> usize
-    ensures { λ r. ⌜ (r ≡ n) × (r ≤ 4294967295) ⌝ }
-{
-    n as usize
 }
 
 // "F has E one up within that, O the same", and so has C.
@@ -153,7 +165,8 @@ fn is_next(m: Counts, e: u32, o: u32) -> bool
     o == m.o
 }
 
-// "F has E one up within that, O the same, and a report that would be booked"; C alike, with an entry. The slot is written after the last one.
+// "F has E one up within that, O the same, and a report that would be booked"; C alike, with an entry. The slot is written after the last one,
+// and a fill's contracts into its order's row.
 fn step_books(mem: &mut [u8; BOOK], m: Counts, e: u32, o: u32, slot: &[u8]) -> Step
     ensures { λ r. ⌜ Takes (now (mem .entry)) (keptIn m (now (mem .entry))) (Books e o (now (slot .entry))) r (now (mem .exit)) ⌝ }
 {
@@ -175,7 +188,7 @@ fn step_books(mem: &mut [u8; BOOK], m: Counts, e: u32, o: u32, slot: &[u8]) -> S
         Admitted::Full => Step::Bad,
         Admitted::New(booking) => {
             let more = booking.load;
-            book::append(mem, last, slot);
+            book::enter(mem, last, wide(m.orders), booking.row, slot);
             Step::On(Counts {
                 e,
                 o,
@@ -184,6 +197,7 @@ fn step_books(mem: &mut [u8; BOOK], m: Counts, e: u32, o: u32, slot: &[u8]) -> S
                 orders: more.orders,
                 entries: more.entries,
                 acked: m.acked,
+                day: book::day_with(m.day, slot),
             })
         }
     }
@@ -197,14 +211,14 @@ fn take_note(mem: &mut [u8; BOOK], m: Counts, says: Read, s: &[u8]) -> Step
     match says {
         Read::Raises(e, o) => step_raises(m, e, o),
         Read::Books(e, o) => step_books(mem, m, e, o, &note::slot_in_note(s)),
-        Read::Acks(n) => step_acks(m, n),
+        Read::Acks(n) => step_acks(mem, m, n),
         Read::Clears => step_clears(m),
         Read::Part => Step::End,
         Read::Unknown => Step::Bad,
     }
 }
 
-// The notes one by one, their slots into mem.
+// The notes one by one, their slots and rows into mem.
 fn replay(mem: &mut [u8; BOOK], notes: &[u8]) -> Restarted
     requires { ⌜ length (now mem) ≡ bookWidth ⌝ }
     ensures { λ r. ⌜ Replays (restart (now (notes .entry))) r (now (mem .exit)) ⌝ }
@@ -231,7 +245,7 @@ fn replay(mem: &mut [u8; BOOK], notes: &[u8]) -> Restarted
     Restarted::Again(m, at)
 }
 
-// A restart into the lent book. The notes are replayed into an array of the call's own, and only the used slots are copied:
+// A restart into the lent book. The notes are replayed into an array of the call's own, and only the used slots and rows are copied:
 // where a note is unlawful the book stays as it was, and a slot of a day before leaves no trace.
 pub fn restart(book: &mut [u8; BOOK], notes: &[u8]) -> Restarted
     ensures { λ r. ⌜ Restarts (now (book .entry)) (restart (now (notes .entry))) r (now (book .exit)) ⌝ }
@@ -239,7 +253,7 @@ pub fn restart(book: &mut [u8; BOOK], notes: &[u8]) -> Restarted
     let mut mem = [0u8; BOOK];
     match replay(&mut mem, notes) {
         Restarted::Again(counts, whole) => {
-            book::put_slots(book, wide(counts.last), &mem);
+            book::put_day(book, wide(counts.last), wide(counts.orders), &mem);
             Restarted::Again(counts, whole)
         }
         Restarted::Unlawful(at) => Restarted::Unlawful(at),

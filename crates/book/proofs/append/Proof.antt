@@ -6,11 +6,12 @@ use denote.Ref.{now}
 use borrow.Author.Tests.{eq-eqb, ne-eqb, le-ltb, lt-ltb}
 use lib.ListN.{length}
 use lib.Dec.{ltb, eqb}
-use Prim.Native.Nat.{ℕ, _*_}
+use Prim.Native.Nat.{ℕ, _+_, _*_}
+use native.Mathlib.Nat.{zero-add}
 use Rattle.octet.specs.Splice.{splice, fitsAt}
 use Rattle.octet.proofs.Cases.{and-make, and-no-left, and-no-right}
 use Rattle.octet.proofs.Lists.{fits-true}
-use Rattle.book.proofs.Slots.{appended-in, appended-out}
+use Rattle.book.proofs.Regions.{appended-in, appended-out}
 use borrow.Author.Needs.{needs}
 use Rattle.book.proofs.append.Statement.{statement}
 use Rattle.book.proofs.append.Tie as tie
@@ -33,8 +34,8 @@ returns-3 c =
     let m = now (a .book) in
     let s = now (a .slot) in
     let n = c .before .before .before .if2 .left in
-    let at = c .before .place-of .ensures in
-    let room = fits-true m (a .count * slotWidth) s (omega arith) in
+    let at = c .before .place-of .ensures ∙ sym (zero-add (a .count * slotWidth)) in
+    let room = fits-true m (0 + a .count * slotWidth) s (omega arith) in
     let fits = and-make (ltb (a .count) mostSlots) (eqb (length s) slotWidth) (lt-ltb (a .count) mostSlots (omega arith)) (eq-eqb _ _ n) in (
       c .copy-into .ensures .0 ∙ ap (λ (p : ℕ). fitsAt m p s) at ∙ room ∙ sym fits,
       c .copy-into .ensures .1 ∙ ap (λ (p : ℕ). splice m p s) at ∙ sym (appended-in m (a .count) s (omega arith) n),

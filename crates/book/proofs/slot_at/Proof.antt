@@ -1,10 +1,12 @@
+use Prim.Native.Nat.{ℕ, _+_, _*_}
+use Rattle.book.specs.Memory.{mostSlots, slotsHere, regionOf}
 use Rattle.fill.specs.Slot.{slotWidth}
-use mathlib.Core.Path.{sym, ap, _∙_}
-use native.Mathlib.Omega.{arith}
-use denote.Ref.{now}
-use Prim.Native.Nat.{ℕ, _*_}
+use Rattle.octet.proofs.Lists.{part-past, part-most, part-part}
 use Rattle.octet.specs.Bytes.{part}
-use Rattle.octet.proofs.Lists.{part-past}
+use denote.Ref.{now}
+use mathlib.Core.Path.{_≡_, refl, sym, ap, ap₂, _∙_}
+use native.Mathlib.Nat.{zero-add}
+use native.Mathlib.Omega.{arith}
 use borrow.Author.Needs.{needs}
 use Rattle.book.proofs.slot_at.Statement.{statement}
 use Rattle.book.proofs.slot_at.Tie as tie
@@ -12,12 +14,23 @@ use Rattle.book.proofs.slot_at.Tie as tie
 returns : tie.Need-returns
 returns c =
     let a = c .before .before .before .args in
-    c .part .ensures ∙ sym (part-past (a .i * slotWidth) slotWidth (now (a .book)) (omega arith))
+    let m = now (a .book) in
+    c .part .ensures ∙ sym (part-past (a .i * slotWidth) slotWidth (regionOf slotsHere m) (omega (arith, part-most 0 (mostSlots * slotWidth) m)))
 
 returns-2 : tie.Need-returns-2
 returns-2 c =
     let a = c .before .before .before .before .args in
-    c .part2 .ensures ∙ ap (λ (p : ℕ). part p slotWidth (now (a .book))) (c .before .place-of .ensures)
+    let m = now (a .book) in
+    c .part2 .ensures
+    ∙ ap (λ (p : ℕ). part p slotWidth m) (c .before .place-of .ensures ∙ sym (zero-add (a .i * slotWidth)))
+    ∙ sym (part-part 0 (mostSlots * slotWidth) (a .i * slotWidth) slotWidth m (omega arith))
 
 pub slot-at-spec : {M : Type 1} → statement M
-slot-at-spec = tie.close (tie.spec (λ c κs. search needs) returns (λ c κs. search needs) (λ c κs. search needs) returns-2)
+slot-at-spec =
+    tie.close
+    (tie.spec
+    (λ c κs. search needs)
+    returns
+    (λ c κs. search needs)
+    (λ c κs. search needs)
+    returns-2)

@@ -1,10 +1,10 @@
 -- `restart::restart` meets its contract: the used slots of the replay are copied, and nothing where it was refused.
 use borrow.Author.Needs.{needs}
-use mathlib.Core.Path.{sym, ap, _∙_}
+use mathlib.Core.Path.{sym, ap, ap₂, _∙_}
 use Prim.Native.Nat.{ℕ, _-_}
 use lib.ListN.{length}
 use denote.Ref.{now}
-use Rattle.book.specs.Memory.{slotsIn, holding}
+use Rattle.book.specs.Memory.{slotsIn, rowsIn, holding}
 use Rattle.restart.specs.Restart.{restart}
 use Rattle.restart.proofs.Going.{restart-given}
 use Rattle.restart.proofs.Stepping.{book-is, book-stays, slots-there, slots-none}
@@ -13,16 +13,15 @@ use Rattle.restart.proofs.restart.Tie as tie
 
 returns : tie.Need-returns
 returns c =
-    let counts = c .before .before .before .before .before in
-    let r = counts .before .before .replay in
-    let a = counts .before .before .before .before .before .args in
+    let a = c .before .before .before .before .before .before .before .before .before .before .before .args in
+    let r = c .before .before .before .before .before .before .before .before .replay in
     let l = now (a .notes) in
     let book = now (a .book) in
-    let e = sym (counts .counts .given .1) ∙ r .ensures .0 in
-    let after = c .put-slots .ensures .0
-    ∙ ap (λ (k : ℕ). holding book (slotsIn k (r .last .0))) (c .before .before .wide .ensures .0)
-    ∙ book-is (restart l) book (r .last .0) _ _ e (r .ensures .1) in
-    (e, after, slots-there (restart l) book _ (length l) (restart-given l) after (c .put-slots .ensures .1))
+    let e = sym (c .before .before .before .before .before .before .counts .given .1) ∙ r .ensures .0 in
+    let after = c .put-day .ensures .0
+    ∙ ap₂ (λ (k n : ℕ). holding book (slotsIn k (r .last .0)) (rowsIn n (r .last .0))) (c .before .before .before .wide .ensures .0) (c .before .before .wide2 .ensures .0)
+    ∙ book-is (restart l) book (r .last .0) _ _ (length l) e (restart-given l) (r .ensures .1) in
+    (e, after, slots-there (restart l) book _ (length l) (restart-given l) after (c .put-day .ensures .1))
 
 returns-2 : tie.Need-returns-2
 returns-2 c =
@@ -36,6 +35,7 @@ restart-spec =
     (tie.spec
     (λ c κs. search needs)
     (λ c. search needs)
+    (λ c κs. search needs)
     (λ c κs. search needs)
     (λ c κs. search needs)
     (λ c. search needs)

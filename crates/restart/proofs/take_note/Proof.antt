@@ -6,7 +6,7 @@ use denote.Ref.{now}
 use Rattle.note.proofs.Asking.{untold, was-read}
 use Rattle.restart.specs.Restart.{restart}
 use Rattle.restart.specs.Steps.{keptIn, stepRead, memRead}
-use Rattle.restart.proofs.Stepping.{any-raises, any-acks, any-clears, take-whole, take-books, mem-raises, mem-acks, mem-clears}
+use Rattle.restart.proofs.Stepping.{any-raises, any-clears, take-whole, take-books, mem-raises, mem-clears}
 use Rattle.restart.proofs.take_note.Statement.{statement}
 use Rattle.restart.proofs.take_note.Tie as tie
 
@@ -32,13 +32,13 @@ returns-2 c =
 
 returns-3 : tie.Need-returns-3
 returns-3 c =
-    let a = c .before .before .before .before .before .args in
-    let pre = c .before .before .before .before .before .pre in
+    let a = c .before .before .before .before .before .before .args in
+    let pre = c .before .before .before .before .before .before .pre in
     let m = now (a .mem) in
     let s = now (a .s) in
     let q = keptIn (a .m) m in
-    let r = was-read s _ pre ∙ ap (untold s) (c .before .before .says3 .given .1) in
-    take-whole q m s r (c .step-acks .ensures ∙ any-acks (a .m) m _) (mem-acks m q _)
+    let r = was-read s _ pre ∙ ap (untold s) (c .before .before .before .says3 .given .1) in
+    take-whole q m s r (c .step-acks .ensures .0) (c .step-acks .ensures .1)
 
 returns-4 : tie.Need-returns-4
 returns-4 c =

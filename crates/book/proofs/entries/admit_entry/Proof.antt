@@ -4,7 +4,7 @@ use lib.Dec.{ltb}
 use borrow.Author.Tests.{not-true, not-false}
 use Rattle.octet.proofs.Cases.{and-right}
 use Rattle.book.specs.Entries.{entryRoom}
-use Rattle.book.specs.Memory.{mostSlots, slotsIn}
+use Rattle.book.specs.Memory.{mostSlots, slotsIn, rowsIn}
 use Rattle.book.specs.Admitting.{place}
 use Rattle.book.specs.Seeing.{someSlot}
 use Rattle.book.specs.declared.Admitted.the-variants as admitted
@@ -15,11 +15,11 @@ use Rattle.book.proofs.entries.admit_entry.Statement.{statement}
 use Rattle.book.proofs.entries.admit_entry.Tie as tie
 
 -- where it stands among the day's, from what was found
-placed : (c : tie.After-by-key) → (let a = c .before .before .before .before .args in c .by-key .result ≡ place (slotsIn (a .last) (now (a .book))) (now (a .slot)))
+placed : (c : tie.After-by-key) → (let a = c .before .before .before .before .args in c .by-key .result ≡ place (slotsIn (a .last) (now (a .book))) (rowsIn (a .load .orders) (now (a .book))) (now (a .slot)))
 placed c =
     let start = c .before .before .before .before in
     let a = start .args in
-    entry-placed (now (a .slot)) (start .pre) (slotsIn (a .last) (now (a .book))) (now (c .before .slot-at .result)) _
+    entry-placed (now (a .slot)) (start .pre) (slotsIn (a .last) (now (a .book))) (rowsIn (a .load .orders) (now (a .book))) (now (c .before .slot-at .result)) _
     (ap someSlot (c .before .slot-at .ensures) ∙ c .before .before .look-for .ensures) (c .by-key .ensures)
 
 -- no room
@@ -29,8 +29,8 @@ returns c =
     let start = by .before .before .before .before in
     let a = start .args in
     let e = now (a .slot) in
-    let room = sym (entry-room e (start .pre) (a .last) (now (a .book)) (a .load)) ∙ sym (c .before .has-room .ensures) ∙ not-true _ (c .if1 .taken) in
-    sym (admit-full (slotsIn (a .last) (now (a .book))) (a .load) e (sym (placed by) ∙ c .before .before .enum-told2 .given .1) room)
+    let room = sym (entry-room e (start .pre) (a .last) (now (a .book)) (rowsIn (a .load .orders) (now (a .book))) (a .load)) ∙ sym (c .before .has-room .ensures) ∙ not-true _ (c .if1 .taken) in
+    sym (admit-full (slotsIn (a .last) (now (a .book))) (rowsIn (a .load .orders) (now (a .book))) (a .load) e (sym (placed by) ∙ c .before .before .enum-told2 .given .1) room)
 
 with-entry-requires : tie.Need-with-entry-requires
 with-entry-requires c κs =
@@ -41,13 +41,13 @@ returns-2 : tie.Need-returns-2
 returns-2 c =
     let by = c .before .before .before in
     let a = by .before .before .before .before .args in
-    sym (admit-clash (slotsIn (a .last) (now (a .book))) (a .load) (now (a .slot)) (sym (placed by) ∙ c .before .f .given .1))
+    sym (admit-clash (slotsIn (a .last) (now (a .book))) (rowsIn (a .load .orders) (now (a .book))) (a .load) (now (a .slot)) (sym (placed by) ∙ c .before .f .given .1))
 
 returns-3 : tie.Need-returns-3
 returns-3 c =
     let by = c .before .before in
     let a = by .before .before .before .before .args in
-    sym (admit-already (slotsIn (a .last) (now (a .book))) (a .load) (now (a .slot)) (sym (placed by) ∙ c .enum-told .given .1))
+    sym (admit-already (slotsIn (a .last) (now (a .book))) (rowsIn (a .load .orders) (now (a .book))) (a .load) (now (a .slot)) (sym (placed by) ∙ c .enum-told .given .1))
 
 -- new, with its booking
 returns-4 : tie.Need-returns-4
@@ -57,9 +57,9 @@ returns-4 c =
     let a = start .args in
     let e = now (a .slot) in
     let ss = slotsIn (a .last) (now (a .book)) in
-    let room = sym (entry-room e (start .pre) (a .last) (now (a .book)) (a .load)) ∙ sym (c .before .before .has-room .ensures) ∙ not-false _ (c .before .if1 .left) in
-    ap admitted.New (entry-booking e (start .pre) ss (a .load) (c .with-entry .result) (c .with-entry .ensures))
-    ∙ sym (admit-new ss (a .load) e (sym (placed by) ∙ c .before .before .before .enum-told2 .given .1) room)
+    let room = sym (entry-room e (start .pre) (a .last) (now (a .book)) (rowsIn (a .load .orders) (now (a .book))) (a .load)) ∙ sym (c .before .before .has-room .ensures) ∙ not-false _ (c .before .if1 .left) in
+    ap admitted.New (entry-booking e (start .pre) ss (rowsIn (a .load .orders) (now (a .book))) (a .load) (c .with-entry .result) (c .with-entry .ensures))
+    ∙ sym (admit-new ss (rowsIn (a .load .orders) (now (a .book))) (a .load) e (sym (placed by) ∙ c .before .before .before .enum-told2 .given .1) room)
 
 pub admit-entry-spec : {M : Type 1} → statement M
 admit-entry-spec =

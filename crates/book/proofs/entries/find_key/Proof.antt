@@ -9,9 +9,9 @@ use Rattle.octet.specs.Maybe.{find}
 use Rattle.octet.specs.Places.{wordAt}
 use Rattle.octet.proofs.Lists.{part-sized}
 use Rattle.fill.specs.Slot.{slotWidth}
-use Rattle.book.specs.Memory.{slotsIn}
+use Rattle.book.specs.Memory.{cells}
 use Rattle.book.specs.Entries.{sameKey}
-use Rattle.book.proofs.Slots.{slots-first}
+use Rattle.book.proofs.Cells.{cells-first}
 use Rattle.book.proofs.Finds.{search-found, search-on, search-none}
 use Rattle.book.proofs.Keyed.{key-empty, key-glance}
 use borrow.Author.Needs.{needs}
@@ -19,7 +19,7 @@ use Rattle.book.proofs.entries.find_key.Statement.{statement}
 use Rattle.book.proofs.entries.find_key.Tie as tie
 
 abbrev Inv-loop : tie.InvT-loop
-Inv-loop m n slot g i₀ i = (find (sameKey slot) (slotsIn (n - i) (drop (i * slotWidth) m)) ≡ find (sameKey slot) (slotsIn n m)) × (i ≤ n)
+Inv-loop m n slot g i₀ i = (find (sameKey slot) (cells slotWidth (n - i) (drop (i * slotWidth) m)) ≡ find (sameKey slot) (cells slotWidth n m)) × (i ≤ n)
 
 abbrev μ-loop : tie.MeasureT-loop
 μ-loop m n slot g i₀ i = n - i
@@ -27,7 +27,7 @@ abbrev μ-loop : tie.MeasureT-loop
 loop-holds : tie.Need-loop-holds Inv-loop μ-loop
 loop-holds c =
     let a = c .before .before .before .before .args in
-    (ap (find (sameKey (now (a .slot)))) (sym (slots-first (a .n) (now (a .m)))), omega arith)
+    (ap (find (sameKey (now (a .slot)))) (sym (cells-first slotWidth (a .n) (now (a .m)))), omega arith)
 
 returns : tie.Need-returns Inv-loop μ-loop
 returns c =

@@ -1,0 +1,4 @@
+pub mod Shown
+pub mod Upto
+pub mod Lending
+pub mod Unique
