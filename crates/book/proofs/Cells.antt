@@ -120,7 +120,7 @@ module _ (w : ℕ) where
       ∙ ap₂ (λ (t : List (List ℕ)) (x : List ℕ). t ++ (x ∷ [])) (cells-same n _ _ (splice-before m (n * w) s (n * w) (le-refl (n * w)))) r
 
   -- n cells are the first i of them, the i-th, and the rest
-  cells-around : (n i : ℕ) (m : List ℕ) → i < n → cells w n m ≡ cells w i m ++ (cellAt w i m ∷ cells w (n - (i + 1)) (drop ((i + 1) * w) m))
+  pub cells-around : (n i : ℕ) (m : List ℕ) → i < n → cells w n m ≡ cells w i m ++ (cellAt w i m ∷ cells w (n - (i + 1)) (drop ((i + 1) * w) m))
   unfolding cells
   cells-around zero i m h = absurd (omega arith)
   cells-around (suc n) zero m h =

@@ -8,7 +8,7 @@ ghost use Prim.Native.Nat.{_+_, _-_, _*_, _≤_, _<_, min};
 ghost use lib.ListN.{length};
 ghost use Rattle.octet.specs.Bytes.{same};
 ghost use Rattle.octet.specs.Places.{wordAt};
-ghost use Rattle.octet.specs.Maybe.{findLast};
+ghost use Rattle.octet.specs.Maybe.{find, findLast};
 ghost use Rattle.answer.specs.Numbers.{fault, wrongValue, largest};
 ghost use mathlib.Core.Bool.{false};
 ghost use mathlib.Core.Option.{none};
@@ -17,7 +17,8 @@ ghost use Rattle.book.specs.Place.{sameContents, sameExec, sameOrder, by
 ghost use Rattle.book.specs.Memory.{mostSlots, slotsHere, bookWidth, cells, cellAt, slotsIn, slotAt, fitsAfter, appended, rowsIn, holding, entered};
 ghost use Rattle.book.specs.declared.Placed.the-variants.{Clash};
 ghost use Rattle.book.specs.Admitting.{admitOf};
-ghost use Rattle.book.specs.Seeing.{someSlot, roomFor, ordersFor};
+ghost use Rattle.book.specs.Rows.{rowPlace};
+ghost use Rattle.book.specs.Seeing.{someSlot, roomFor, ordersFor, Sees, SeesIn, PassesExec, PassesBoth};
 use answer::Fault;
 use answer::reasons;
 use answer::tags;
@@ -66,6 +67,13 @@ pub enum Admitted {
     Already,
     Full,
     New(Booking),
+}
+
+// What the slots say of a fill: the place of the one with its ExecID, SLOTS where there is none; and, where there is none, whether its order has a
+// fill among them.
+struct Seen {
+    exec: usize,
+    known: bool,
 }
 
 // The eight bytes by which an ID is told from others at a glance.
@@ -180,32 +188,100 @@ fn same_order(slot: &[u8], s: &[u8]) -> bool
     same_id(fill::order_of(slot), fill::order_of(s))
 }
 
-// The place of the last of n slots that is a fill with the ExecID of slot; SLOTS where there is none. A report's time goes here: nothing
-// but the comparison at a glance stands in the loop. The newest is looked at first, since it is the one that is sent again.
+// How many of n slots are left when those at the end that differ from the ExecID at a glance are passed over. A report's time goes here and
+// in the next: nothing but the comparisons stands in the loop.
+fn pass_execs(m: &[u8], n: usize, exec: Glance) -> usize
+    requires { ⌜ (n ≤ mostSlots) × (length (now m) ≡ slotsHere .wide) ⌝ }
+    ensures { λ r. ⌜ (r ≤ n) × PassesExec (now (m .entry)) exec n r ⌝ }
+{
+    let mut i = n;
+    while 0 < i {
+        let at = (i - 1) * SLOT;
+        let s = &m[at..at + SLOT];
+        if octet::word_at(fill::exec_of(s), exec.at) == exec.word {
+            return i;
+        }
+        i -= 1;
+    }
+    i
+}
+
+// The same for those that differ from both IDs.
+fn pass_over(m: &[u8], n: usize, exec: Glance, order: Glance) -> usize
+    requires { ⌜ (n ≤ mostSlots) × (length (now m) ≡ slotsHere .wide) ⌝ }
+    ensures { λ r. ⌜ (r ≤ n) × PassesBoth (now (m .entry)) exec order n r ⌝ }
+{
+    let mut i = n;
+    while 0 < i {
+        let at = (i - 1) * SLOT;
+        let s = &m[at..at + SLOT];
+        if octet::word_at(fill::exec_of(s), exec.at) == exec.word {
+            return i;
+        }
+        if octet::word_at(fill::order_of(s), order.at) == order.word {
+            return i;
+        }
+        i -= 1;
+    }
+    i
+}
+
+// The place of the last of n slots that is a fill with the ExecID of slot; SLOTS where there is none.
 fn find_exec(m: &[u8], n: usize, slot: &[u8]) -> usize
     requires { ⌜ (n ≤ mostSlots) × (length (now m) ≡ slotsHere .wide) ⌝ }
     ensures { λ r. ⌜ someSlot (cellAt slotWidth r (now (m .entry))) ≡ findLast (sameExec (now (slot .entry))) (cells slotWidth n (now (m .entry))) ⌝ }
 {
-    let g = glance_at(fill::exec_of(slot));
-    let mut i = n;
+    let exec = glance_at(fill::exec_of(slot));
+    let mut i = pass_execs(m, n, exec);
     while 0 < i {
         i -= 1;
         let s = &m[i * SLOT..i * SLOT + SLOT];
-        if octet::word_at(fill::exec_of(s), g.at) == g.word {
-            if same_exec(slot, s) {
-                return i;
-            }
+        if same_exec(slot, s) {
+            return i;
         }
+        i = pass_execs(m, i, exec);
     }
     SLOTS
 }
 
+// What n slots, from the last to the first, say of a fill: where its ExecID stands, and whether its order has a fill among them. The newest is
+// looked at first, since it is the one that is sent again; behind the first fill of its order only the ExecID is looked for.
+fn walk(m: &[u8], n: usize, slot: &[u8]) -> Seen
+    requires { ⌜ (n ≤ mostSlots) × (length (now m) ≡ slotsHere .wide) ⌝ }
+    ensures { λ r. ⌜ Sees (now (m .entry)) (now (slot .entry)) (cells slotWidth n (now (m .entry))) r ⌝ }
+{
+    let exec = glance_at(fill::exec_of(slot));
+    let order = glance_at(fill::order_of(slot));
+    let mut i = pass_over(m, n, exec, order);
+    while 0 < i {
+        i -= 1;
+        let s = &m[i * SLOT..i * SLOT + SLOT];
+        if same_exec(slot, s) {
+            return Seen {
+                exec: i,
+                known: true,
+            };
+        }
+        if same_order(slot, s) {
+            return Seen {
+                exec: find_exec(m, i, slot),
+                known: true,
+            };
+        }
+        i = pass_over(m, i, exec, order);
+    }
+    Seen {
+        exec: SLOTS,
+        known: false,
+    }
+}
+
 // The same of all that are counted.
-fn look(book: &[u8; BOOK], count: usize, slot: &[u8]) -> usize
-    ensures { λ r. ⌜ someSlot (slotAt r (now (book .entry))) ≡ findLast (sameExec (now (slot .entry))) (slotsIn count (now (book .entry))) ⌝ }
+fn look(book: &[u8; BOOK], count: usize, slot: &[u8]) -> Seen
+    ensures { λ r. ⌜ SeesIn (now (book .entry)) (now (slot .entry)) (slotsIn count (now (book .entry))) r ⌝ }
 {
     let all = &book[..];
-    find_exec(&all[0..SLOTS_SIZE], inside(count), slot)
+    walk(&all[0..SLOTS_SIZE], inside(count), slot)
 }
 
 // "same OrderID, symbol, side, LastShares and price".
@@ -317,29 +393,41 @@ fn in_step(slot: &[u8], known: &[u8], booked: u32) -> bool
     wide(fill::cum_of(slot)) == carried + sum
 }
 
+// The place of the row of the order of slot, among so many. An order that has no fill has no row.
+fn place_row(book: &[u8; BOOK], last: usize, orders: usize, slot: &[u8], known: bool) -> usize
+    requires { ⌜ (known ≡ false → find (sameOrder (now slot)) (slotsIn last (now book)) ≡ none) ⌝ }
+    ensures { λ r. ⌜ r ≡ rowPlace (slotsIn last (now (book .entry))) (rowsIn orders (now (book .entry))) (now (slot .entry)) ⌝ }
+{
+    if known {
+        return find_row(book, last, orders, slot);
+    }
+    orders
+}
+
 // What becomes of a fill whose ExecID is new: its order is found by its row.
-fn admit_new(book: &[u8; BOOK], last: usize, load: Load, slot: &[u8]) -> Admitted
-    requires { ⌜ (isEntry (now slot) ≡ false) × (findLast (sameExec (now slot)) (slotsIn last (now book)) ≡ none) ⌝ }
+fn admit_new(book: &[u8; BOOK], last: usize, load: Load, slot: &[u8], known: bool) -> Admitted
+    requires { ⌜ (isEntry (now slot) ≡ false) × (findLast (sameExec (now slot)) (slotsIn last (now book)) ≡ none)
+        × (known ≡ false → find (sameOrder (now slot)) (slotsIn last (now book)) ≡ none) ⌝ }
     ensures { λ r. ⌜ r ≡ admitOf (slotsIn last (now (book .entry))) (rowsIn (load .orders) (now (book .entry))) load (now (slot .entry)) ⌝ }
 {
-    let place = find_row(book, last, load.orders as usize, slot);
+    let place = place_row(book, last, load.orders as usize, slot, known);
     let row = row_in(book, load.orders as usize, place);
-    let known = head_of(book, last, row);
-    match by_order(slot, known) {
+    let first = head_of(book, last, row);
+    match by_order(slot, first) {
         Placed::Clash(f) => Admitted::Clash(f),
         Placed::Already => Admitted::Already,
         Placed::New => {
-            if !has_room(last, load, known) {
+            if !has_room(last, load, first) {
                 return Admitted::Full;
             }
             Admitted::New(Booking {
                 load: Load {
                     fills: fills_with(load.fills, slot),
-                    orders: orders_with(load.orders, known),
+                    orders: orders_with(load.orders, first),
                     entries: load.entries,
                 },
                 row: place,
-                stepped: in_step(slot, known, octet::four_at(row, 4)),
+                stepped: in_step(slot, first, octet::four_at(row, 4)),
             })
         }
     }
@@ -350,9 +438,10 @@ fn admit_fill(book: &[u8; BOOK], last: usize, load: Load, slot: &[u8]) -> Admitt
     requires { ⌜ isEntry (now slot) ≡ false ⌝ }
     ensures { λ r. ⌜ r ≡ admitOf (slotsIn last (now (book .entry))) (rowsIn (load .orders) (now (book .entry))) load (now (slot .entry)) ⌝ }
 {
-    let twin = slot_at(book, look(book, last, slot));
+    let seen = look(book, last, slot);
+    let twin = slot_at(book, seen.exec);
     if twin.len() == 0 {
-        return admit_new(book, last, load, slot);
+        return admit_new(book, last, load, slot, seen.known);
     }
     if same_contents(slot, twin) {
         return Admitted::Already;

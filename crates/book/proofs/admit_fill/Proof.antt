@@ -17,10 +17,10 @@ use Rattle.book.proofs.admit_fill.Tie as tie
 
 -- the newest with its ExecID, as its bytes
 twin : (c : tie.After-slot-at) → (let a = c .before .before .before .args in someSlot (now (c .slot-at .result)) ≡ findLast (sameExec (now (a .slot))) (slotsIn (a .last) (now (a .book))))
-twin c = ap someSlot (c .slot-at .ensures) ∙ c .before .look .ensures
+twin c = ap someSlot (c .slot-at .ensures) ∙ c .before .look .ensures .0
 
 admit-new-requires : tie.Need-admit-new-requires
-admit-new-requires c κs = (c .before .before .before .before .pre, sym (twin (c .before)) ∙ known-none (now (c .before .slot-at .result)) (c .if1 .taken))
+admit-new-requires c κs = (c .before .before .before .before .pre, sym (twin (c .before)) ∙ known-none (now (c .before .slot-at .result)) (c .if1 .taken), c .before .before .look .ensures .1)
 
 returns-2 : tie.Need-returns-2
 returns-2 c =

@@ -17,6 +17,9 @@ use borrow.Author.Needs.{needs}
 use Rattle.book.proofs.admit_new.Statement.{statement}
 use Rattle.book.proofs.admit_new.Tie as tie
 
+place-row-requires : tie.Need-place-row-requires
+place-row-requires c κs = c .before .before .pre .2
+
 -- what is found for its order
 found : (c : tie.After-head-of)
     → (let a = c .before .before .before .before .before .before .args in
@@ -25,7 +28,7 @@ found c =
     let a = c .before .before .before .before .before .before .args in
     let ss = slotsIn (a .last) (now (a .book)) in
     let rows = rowsIn (a .load .orders) (now (a .book)) in
-    ap someSlot (c .head-of .ensures ∙ ap (headOf ss) (c .before .row-in .ensures ∙ ap (λ (n : ℕ). getD rows n []) (c .before .before .before .find-row .ensures))) ∙ first-found ss rows (now (a .slot))
+    ap someSlot (c .head-of .ensures ∙ ap (headOf ss) (c .before .row-in .ensures ∙ ap (λ (n : ℕ). getD rows n []) (c .before .before .before .place-row .ensures))) ∙ first-found ss rows (now (a .slot))
 
 -- where it stands among the day's
 placed : (c : tie.After-by-order)
@@ -74,10 +77,10 @@ returns-4 c =
     let ek = found (c .before .before .before .before .before .before .before .before .before) in
     let known = there-by ss rows (a .load) f k ek in
     let room = sym (room-by (a .last) (a .load) k (now (a .book)) rows f h known) ∙ sym (c .before .before .before .before .before .has-room .ensures) ∙ not-false _ (c .before .before .before .before .if1 .left) in
-    let row = c .before .before .before .before .before .before .before .before .before .before .row-in .ensures ∙ ap (λ (n : ℕ). getD rows n []) (c .before .before .before .before .before .before .before .before .before .before .before .before .find-row .ensures) in
+    let row = c .before .before .before .before .before .before .before .before .before .before .row-in .ensures ∙ ap (λ (n : ℕ). getD rows n []) (c .before .before .before .before .before .before .before .before .before .before .before .before .place-row .ensures) in
     let step = step-by ss rows (a .load) f k ek _ _ (c .before .four-at .ensures ∙ ap bookedIn row ∙ booked-found ss rows f) (c .in-step .ensures) in
     let fits : a .load .entries ≤ largest = omega (arith, start .good .1 .1 .0) in
-    let booking = booking-by ss rows (a .load) f k ek _ _ _ _ h fits (c .before .before .before .fills-with .ensures) (c .before .before .orders-with .ensures) (c .before .before .before .before .before .before .before .before .before .before .before .before .find-row .ensures) step in
+    let booking = booking-by ss rows (a .load) f k ek _ _ _ _ h fits (c .before .before .before .fills-with .ensures) (c .before .before .orders-with .ensures) (c .before .before .before .before .before .before .before .before .before .before .before .before .place-row .ensures) step in
     ap admitted.New booking ∙ sym (admit-new ss rows (a .load) f (placed (c .before .before .before .before .before .before .before .before) ∙ c .before .before .before .before .before .before .enum-told2 .given .1) room)
 
 pub admit-new-spec : {M : Type 1} → statement M
@@ -85,7 +88,7 @@ admit-new-spec =
     tie.close
     (tie.spec
     (λ c. search needs)
-    (λ c κs. search needs)
+    place-row-requires
     (λ c. search needs)
     (λ c κs. search needs)
     (λ c κs. search needs)
