@@ -17,7 +17,7 @@ use Rattle.octet.specs.Bytes.{part, joined}
 use Rattle.octet.specs.Splice.{splice}
 use Rattle.octet.specs.Places.{HighFirst, high}
 use Rattle.octet.proofs.Cases.{of-cond, and-make, cond-true, cond-false, le-or-lt}
-use Rattle.octet.proofs.Lists.{length-part, part-past, part-take, part-splice-before, part-splice-after, splice-in, splice-nil, splice-same, splice-before, splice-after, splice-length, splice-then, cut-in-three, drop-take}
+use Rattle.octet.proofs.Lists.{length-part, part-most, part-past, part-take, part-splice-before, part-splice-after, splice-in, splice-nil, splice-same, splice-before, splice-after, splice-length, splice-then, cut-in-three, drop-take}
 use Rattle.octet.proofs.Places.{number-length}
 use Rattle.fill.specs.Slot.{Slot, slotWidth}
 use Rattle.book.specs.Place.{mostOrders}
@@ -175,6 +175,10 @@ module _ (n i : ℕ) (m : List ℕ) where
 
   pub slots-end : n ≤ i → drop i (slotsIn n m) ≡ []
   slots-end = cells-end slotWidth n i (regionOf slotsHere m)
+
+-- past the end of the memory a slot is of no bytes
+pub slot-past : (i : ℕ) (m : List ℕ) → mostSlots ≤ i → slotAt i m ≡ []
+slot-past i m h = part-past (i * slotWidth) slotWidth (regionOf slotsHere m) (omega (arith, part-most 0 (mostSlots * slotWidth) m))
 
 pub appended-in : (m : List ℕ) (count : ℕ) (s : Slot) → count < mostSlots → length s ≡ slotWidth → appended m count s ≡ splice m (slotsHere .at + count * slotWidth) s
 unfolding appended

@@ -1,4 +1,5 @@
 -- The rows of a lent memory, as they are searched and written.
+--     head-..     the first fill of a row's order
 --     rows-turn, rows-past     a search over them
 --     more-old, more-new, fewer-old, fewer-out     a row written, from the numbers that were read
 --     entered-..     the memory with a slot more
@@ -25,14 +26,14 @@ use Rattle.fill.specs.Slot.{Slot, slotWidth, isFill, isEntry, sharesOf}
 use Rattle.book.specs.Place.{mostOrders, ordersWith}
 use Rattle.book.specs.Admitting.{hasRoom, loadWith}
 use Rattle.book.specs.declared.Load.{Load}
-use Rattle.book.specs.Rows.{Row, rowWidth, firstIn, bookedIn, waitsIn, rowOf, isRowOf, before, rowPlace, raised, lowered, isKnown, onFirst, moreOf, rowsWith, rowsLess, dayLess, rowsWithout, dayWithout}
+use Rattle.book.specs.Rows.{Row, rowWidth, firstIn, bookedIn, waitsIn, rowOf, numbered, headOf, isRowOf, before, rowPlace, raised, lowered, isKnown, onFirst, moreOf, rowsWith, rowsLess, dayLess, rowsWithout, dayWithout}
 use Rattle.book.specs.Memory.{regionOf, slotsHere, rowsHere, mostSlots, bookWidth, cells, cellAt, laid, slotsIn, slotAt, fitsAfter, appended, rowsIn, rowAt, rowPut, rowMore, rowFewer, entered, holding, between}
 use Rattle.book.specs.Seeing.{RowsAlone, TakesOne}
 use Rattle.book.proofs.Cells.{cells-length, cells-nth, cells-step, cells-drop, cells-end, joined-cells, cell-within}
 use Rattle.book.proofs.Regions.{rows-wide, slots-wide, rows-length, slots-length, appended-length, slots-append, rows-append, laid-append, slots-put, put-length, put-set, put-append, laid-put, laid-own, slots-laid, row-wide}
 use Rattle.book.proofs.ByKind.{entry-no-fill, fill-no-entry, load-as}
 use Rattle.book.proofs.Placing.{has-room}
-use Rattle.book.proofs.Rowing.{before-stop, before-on, found-there, found-none, row-empty, known-place, unknown-place, first-set, first-none, before-later}
+use Rattle.book.proofs.Rowing.{numbered-past, before-stop, before-on, found-there, found-none, row-empty, known-place, unknown-place, first-set, first-none, before-later}
 
 -- ---- cells past the end of a region are of no bytes
 module _ (w : ℕ) (p : List ℕ → Bool) (passed : p [] ≡ false) where
@@ -56,6 +57,17 @@ module _ (w : ℕ) (p : List ℕ → Bool) (passed : p [] ≡ false) where
       let rest = ap (before p) (cells-drop w n i r ∙ ap (cells w (n - i)) gone) ∙ before-empty (n - i) in
       omega (arith, so, rest)))
       (le-or-lt n most)
+
+-- ---- the first fill of a row's order, by the number that the row has: none, past the last, and a slot
+module _ (last : ℕ) (m : List ℕ) (row : Row) where
+  pub head-none : firstIn row ≡ 0 → headOf (slotsIn last m) row ≡ []
+  head-none h = ap (λ (k : ℕ). numbered k (slotsIn last m)) h
+
+  pub head-past : last < firstIn row → headOf (slotsIn last m) row ≡ []
+  head-past h = numbered-past (firstIn row) (slotsIn last m) (omega (arith, slots-length last m))
+
+  pub head-slot : (i : ℕ) → firstIn row ≡ suc i → i < last → headOf (slotsIn last m) row ≡ slotAt i m
+  head-slot i h l = ap (λ (k : ℕ). numbered k (slotsIn last m)) h ∙ cells-nth slotWidth last i (regionOf slotsHere m) l
 
 module _ (last orders : ℕ) (m : List ℕ) (f : Slot) where
   abbrev rows : List Row

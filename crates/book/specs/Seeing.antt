@@ -3,7 +3,7 @@ use Prim.Native.Nat.{ℕ, _+_, _-_, _*_, _≤_, min}
 use mathlib.Core.Path.{_≡_}
 use mathlib.Core.List.{List, [], _∷_}
 use mathlib.Core.Option.{Option, none, some}
-use mathlib.Core.Bool.{Bool, false, not, _&&_}
+use mathlib.Core.Bool.{Bool, true, false, not, _&&_}
 use lib.ListN.{drop}
 use lib.Dec.{ltb}
 use Rattle.octet.specs.Maybe.{find, findLast, isNone}
@@ -11,7 +11,7 @@ use Rattle.octet.specs.Places.{wordAt}
 use Rattle.answer.specs.Numbers.{largest}
 use Rattle.fill.specs.Slot.{Slot, slotWidth, execOf, orderOf}
 use Rattle.book.specs.Place.{sameExec, sameOrder, fillRoom, ordersWith}
-use Rattle.book.specs.Rows.{rowsLess, dayLess}
+use Rattle.book.specs.Rows.{Row, isRowOf, rowsLess, dayLess}
 use Rattle.book.specs.Memory.{mostSlots, regionOf, slotsHere, rowsHere, cells, cellAt, slotsIn, rowsIn, laid}
 use Rattle.book.specs.declared.Load.{Load}
 use Rattle.book.specs.declared.Seen.{Seen}
@@ -45,6 +45,10 @@ Sees m f ss seen = (someSlot (cellAt slotWidth (seen .exec) m) ≡ findLast (sam
 -- the same of slots of the book
 abbrev pub SeesIn : List ℕ → Slot → List Slot → Seen → Type 0
 SeesIn book f ss seen = Sees (regionOf slotsHere book) f ss seen
+
+-- where the answer is yes, the row is of another order, for any fill of whose OrderID this is the glance
+abbrev pub OtherRow : List Slot → Row → Glance → Bool → Type 0
+OtherRow ss row order r = (f : Slot) → order .word ≡ wordAt (order .at) (orderOf f) → r ≡ true → isRowOf ss f row ≡ false
 
 -- whether something was found
 abbrev pub there : Slot → Bool

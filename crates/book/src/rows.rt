@@ -1,9 +1,11 @@
 // The order rows of the lent memory: an order is found by them, and their sums are brought up to date by what is booked and what is
 // acknowledged. A row has the number of its order's first fill, the contracts booked, and those of them that wait.
 use super::BOOK;
+use super::Glance;
 use super::ROW;
 use super::ROWS;
 use super::ROWS_AT;
+use super::SLOTS;
 use super::book_len;
 use super::glance_at;
 use super::inside;
@@ -16,7 +18,7 @@ ghost use mathlib.Core.List.{[]};
 ghost use Rattle.book.specs.Place.{mostOrders};
 ghost use Rattle.book.specs.Rows.{rowWidth, rowOf, headOf, rowPlace, dayWith};
 ghost use Rattle.book.specs.Memory.{mostSlots, rowsHere, slotsIn, slotAt, rowsIn, rowAt, rowPut, rowMore, rowFewer, TakesOff};
-ghost use Rattle.book.specs.Seeing.{TakesOne};
+ghost use Rattle.book.specs.Seeing.{OtherRow, TakesOne};
 
 // How many of so many orders have a row in the memory.
 pub(crate) fn inside_rows(orders: usize) -> usize
@@ -67,18 +69,39 @@ pub fn head_of<'a>(book: &'a [u8; BOOK], last: usize, row: &[u8]) -> &'a [u8]
     slot_at(book, n - 1)
 }
 
-// The place of the row of the order of slot, among so many; behind the last where there is none. IDs are told apart at a glance.
+// Whether a row is told from that of an order at a glance: there is no fill of its number, or its OrderID differs. Each way out is of its own, since most
+// rows that are passed in a search end at the last line.
+fn is_other(book: &[u8; BOOK], last: usize, row: &[u8], order: Glance) -> bool
+    ensures { λ r. ⌜ OtherRow (slotsIn last (now (book .entry))) (now (row .entry)) order r ⌝ }
+{
+    let n = octet::four_at(row, 0) as usize;
+    if n == 0 {
+        return true;
+    }
+    if last < n {
+        return true;
+    }
+    if SLOTS < n {
+        return true;
+    }
+    if octet::word_at(fill::order_of(slot_at(book, n - 1)), order.at) == order.word {
+        return false;
+    }
+    true
+}
+
+// The place of the row of the order of slot, among so many; behind the last where there is none.
 pub(crate) fn find_row(book: &[u8; BOOK], last: usize, orders: usize, slot: &[u8]) -> usize
     ensures { λ r. ⌜ r ≡ rowPlace (slotsIn last (now (book .entry))) (rowsIn orders (now (book .entry))) (now (slot .entry)) ⌝ }
 {
     book_len(book);
-    let g = glance_at(fill::order_of(slot));
+    let order = glance_at(fill::order_of(slot));
     let n = inside_rows(orders);
     let mut i = 0;
     while i < n {
-        let s = head_of(book, last, row_at(book, i));
-        if octet::word_at(fill::order_of(s), g.at) == g.word {
-            if same_order(slot, s) {
+        let row = row_at(book, i);
+        if !is_other(book, last, row, order) {
+            if same_order(slot, head_of(book, last, row)) {
                 return i;
             }
         }

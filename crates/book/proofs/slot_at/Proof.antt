@@ -1,7 +1,8 @@
 use Prim.Native.Nat.{ℕ, _+_, _*_}
-use Rattle.book.specs.Memory.{mostSlots, slotsHere, regionOf}
+use Rattle.book.proofs.Regions.{slot-past}
+use Rattle.book.specs.Memory.{mostSlots}
 use Rattle.fill.specs.Slot.{slotWidth}
-use Rattle.octet.proofs.Lists.{part-past, part-most, part-part}
+use Rattle.octet.proofs.Lists.{part-part}
 use Rattle.octet.specs.Bytes.{part}
 use denote.Ref.{now}
 use mathlib.Core.Path.{_≡_, refl, sym, ap, ap₂, _∙_}
@@ -15,7 +16,7 @@ returns : tie.Need-returns
 returns c =
     let a = c .before .before .before .args in
     let m = now (a .book) in
-    c .part .ensures ∙ sym (part-past (a .i * slotWidth) slotWidth (regionOf slotsHere m) (omega (arith, part-most 0 (mostSlots * slotWidth) m)))
+    c .part .ensures ∙ sym (slot-past (a .i) m (omega arith))
 
 returns-2 : tie.Need-returns-2
 returns-2 c =
