@@ -101,7 +101,8 @@ pub(crate) fn find_row(book: &[u8; BOOK], last: usize, orders: usize, slot: &[u8
     while i < n {
         let row = row_at(book, i);
         if !is_other(book, last, row, order) {
-            if same_order(slot, head_of(book, last, row)) {
+            let first = head_of(book, last, row);
+            if same_order(slot, first) {
                 return i;
             }
         }
