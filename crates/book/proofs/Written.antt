@@ -30,7 +30,7 @@ use Rattle.book.specs.Rows.{Row, rowWidth, firstIn, bookedIn, waitsIn, r
 use Rattle.book.specs.Memory.{regionOf, slotsHere, rowsHere, mostSlots, bookWidth, cells, cellAt, laid, slotsIn, slotAt, fitsAfter, appended, rowsIn, rowAt, rowPut, rowMore, rowFewer, entered, holding, between}
 use Rattle.book.specs.Seeing.{RowsAlone, TakesOne}
 use Rattle.book.proofs.Cells.{cells-length, cells-nth, cells-step, cells-drop, cells-end, joined-cells, cell-within}
-use Rattle.book.proofs.Regions.{rows-wide, slots-wide, rows-length, slots-length, appended-length, slots-append, rows-append, laid-append, slots-put, put-length, put-set, put-append, laid-put, laid-own, slots-laid, row-wide}
+use Rattle.book.proofs.Regions.{rows-wide, slots-wide, slot-past, rows-length, slots-length, appended-length, slots-append, rows-append, laid-append, slots-put, put-length, put-set, put-append, laid-put, laid-own, slots-laid, row-wide}
 use Rattle.book.proofs.ByKind.{entry-no-fill, fill-no-entry, load-as}
 use Rattle.book.proofs.Placing.{has-room}
 use Rattle.book.proofs.Rowing.{numbered-past, before-stop, before-on, found-there, found-none, row-empty, known-place, unknown-place, first-set, first-none, before-later}
@@ -68,6 +68,22 @@ module _ (last : ℕ) (m : List ℕ) (row : Row) where
 
   pub head-slot : (i : ℕ) → firstIn row ≡ suc i → i < last → headOf (slotsIn last m) row ≡ slotAt i m
   head-slot i h l = ap (λ (k : ℕ). numbered k (slotsIn last m)) h ∙ cells-nth slotWidth last i (regionOf slotsHere m) l
+
+-- past the end of the memory no number has a fill
+numbered-inside : (k last : ℕ) (m : List ℕ) → numbered k (slotsIn (min last mostSlots) m) ≡ numbered k (slotsIn last m)
+numbered-inside zero last m = refl
+numbered-inside (suc i) last m =
+    ⊎-elim
+    (λ h. numbered-past (suc i) (slotsIn (min last mostSlots) m) (omega (arith, slots-length (min last mostSlots) m)) ∙ sym (numbered-past (suc i) (slotsIn last m) (omega (arith, slots-length last m))))
+    (λ h. ⊎-elim
+    (λ far. numbered-past (suc i) (slotsIn (min last mostSlots) m) (omega (arith, slots-length (min last mostSlots) m))
+    ∙ sym (cells-nth slotWidth last i (regionOf slotsHere m) (omega arith) ∙ slot-past i m far))
+    (λ near. cells-nth slotWidth (min last mostSlots) i (regionOf slotsHere m) (omega arith) ∙ sym (cells-nth slotWidth last i (regionOf slotsHere m) (omega arith)))
+    (le-or-lt mostSlots i))
+    (le-or-lt last i)
+
+pub head-inside : (last : ℕ) (m : List ℕ) (row : Row) → headOf (slotsIn (min last mostSlots) m) row ≡ headOf (slotsIn last m) row
+head-inside last m row = numbered-inside (firstIn row) last m
 
 module _ (last orders : ℕ) (m : List ℕ) (f : Slot) where
   abbrev rows : List Row

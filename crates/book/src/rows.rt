@@ -5,7 +5,6 @@ use super::Glance;
 use super::ROW;
 use super::ROWS;
 use super::ROWS_AT;
-use super::SLOTS;
 use super::book_len;
 use super::glance_at;
 use super::inside;
@@ -69,8 +68,8 @@ pub fn head_of<'a>(book: &'a [u8; BOOK], last: usize, row: &[u8]) -> &'a [u8]
     slot_at(book, n - 1)
 }
 
-// Whether a row is told from that of an order at a glance: there is no fill of its number, or its OrderID differs. Each way out is of its own, since most
-// rows that are passed in a search end at the last line.
+// Whether a row is told from that of an order at a glance: there is no fill of its number, or its OrderID differs. Each way out is of its own, since
+// nearly every row that a search passes ends here.
 fn is_other(book: &[u8; BOOK], last: usize, row: &[u8], order: Glance) -> bool
     ensures { λ r. ⌜ OtherRow (slotsIn last (now (book .entry))) (now (row .entry)) order r ⌝ }
 {
@@ -79,9 +78,6 @@ fn is_other(book: &[u8; BOOK], last: usize, row: &[u8], order: Glance) -> bool
         return true;
     }
     if last < n {
-        return true;
-    }
-    if SLOTS < n {
         return true;
     }
     if octet::word_at(fill::order_of(slot_at(book, n - 1)), order.at) == order.word {
@@ -96,12 +92,13 @@ pub(crate) fn find_row(book: &[u8; BOOK], last: usize, orders: usize, slot: &[u8
 {
     book_len(book);
     let order = glance_at(fill::order_of(slot));
+    let most = inside(last);
     let n = inside_rows(orders);
     let mut i = 0;
     while i < n {
         let row = row_at(book, i);
-        if !is_other(book, last, row, order) {
-            let first = head_of(book, last, row);
+        if !is_other(book, most, row, order) {
+            let first = head_of(book, most, row);
             if same_order(slot, first) {
                 return i;
             }

@@ -1,6 +1,5 @@
 use Prim.Native.Nat.{ℕ, suc, _-_}
 use Rattle.book.proofs.Finds.{order-empty, order-glance}
-use Rattle.book.proofs.Regions.{slot-past}
 use Rattle.book.proofs.Written.{head-none, head-past, head-slot}
 use Rattle.book.specs.Memory.{slotAt}
 use Rattle.book.specs.Place.{sameOrder}
@@ -16,7 +15,7 @@ use borrow.Author.Needs.{needs}
 use Rattle.book.proofs.rows.is_other.Statement.{statement}
 use Rattle.book.proofs.rows.is_other.Tie as tie
 
--- no fill has no bytes
+-- what has no bytes is of no order
 none : (f : Slot) {s : Slot} → s ≡ [] → sameOrder f s ≡ false
 none f e = ap (sameOrder f) e ∙ order-empty f
 
@@ -30,27 +29,20 @@ returns-2 c =
     λ f word e. none f (head-past (a .last) (now (a .book)) (now (a .row)) (omega arith))
 
 returns-3 : tie.Need-returns-3
-returns-3 c =
-    let a = c .before .before .before .before .before .args in
-    let n = c .before .before .before .four-at .ensures in
-    let i = c .before .before .before .four-at .result - 1 in
-    λ f word e. none f (head-slot (a .last) (now (a .book)) (now (a .row)) i (omega arith) (omega arith) ∙ slot-past i (now (a .book)) (omega arith))
+returns-3 c = λ f word e. true-not-false (sym e)
 
 -- at a glance
 returns-4 : tie.Need-returns-4
-returns-4 c = λ f word e. true-not-false (sym e)
-
-returns-5 : tie.Need-returns-5
-returns-5 c =
-    let a = c .before .before .before .before .before .before .before .before .before .before .args in
+returns-4 c =
+    let a = c .before .before .before .before .before .before .before .before .before .args in
     let m = now (a .book) in
-    let n = c .before .before .before .before .before .before .before .before .four-at .ensures in
-    let i = c .before .before .before .before .before .before .before .before .four-at .result - 1 in
+    let n = c .before .before .before .before .before .before .before .four-at .ensures in
+    let i = c .before .before .before .before .before .before .before .four-at .result - 1 in
     let s = slotAt i m in
     let at = a .order .at in
     λ f word e. ap (sameOrder f) (head-slot (a .last) m (now (a .row)) i (omega arith) (omega arith))
     ∙ order-glance f s at (a .order .word) word
-    (λ x. c .if4 .left (c .before .before .word-at .ensures ∙ ap (wordAt at) (c .before .before .before .order-of .ensures ∙ ap orderOf (c .before .before .before .before .slot-at .ensures)) ∙ x))
+    (λ x. c .if3 .left (c .before .before .word-at .ensures ∙ ap (wordAt at) (c .before .before .before .order-of .ensures ∙ ap orderOf (c .before .before .before .before .slot-at .ensures)) ∙ x))
 
 pub is-other-spec : {M : Type 1} → statement M
 is-other-spec =
@@ -60,10 +52,9 @@ is-other-spec =
     (λ c. search needs)
     returns
     returns-2
-    returns-3
     (λ c. search needs)
     (λ c κs. search needs)
     (λ c κs. search needs)
     (λ c κs. search needs)
-    returns-4
-    returns-5)
+    returns-3
+    returns-4)
