@@ -70,11 +70,11 @@ module _ (q : Kept) (h : Sound q) where
       let s = headOf ss (rowIs ss (q .acked) id) in
       sym (same-true id (orderOf s) (and-both (isFill s) (same id (orderOf s)) (find-passes (ofOrder id) ss s (head-there id a)) .1))
 
-  row-is : (i : ℕ) → i < length (ordersOf ss) → RowIs q i (getD (ordersOf ss) i []) (getD (q .rows) i [])
+  row-is : (i : ℕ) → i < length (ordersOf ss) → RowIs q (getD (ordersOf ss) i []) (getD (q .rows) i [])
   row-is i l =
       let id = getD (ordersOf ss) i [] in
       let e : getD (q .rows) i [] ≡ rowIs ss (q .acked) id = ap (λ (x : List Row). getD x i []) (h .rows-all) ∙ nth-map (rowIs ss (q .acked)) (ordersOf ss) i l in
-      subst (RowIs q i id) (sym e)
+      subst (RowIs q id) (sym e)
       (record { head = head-there id (nth-among (ordersOf ss) i l); booked = booked-row ss (q .acked) fit id; waits = waits-row ss (q .acked) fit id })
 
   -- the stored sum of an order
