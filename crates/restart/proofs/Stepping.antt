@@ -70,9 +70,9 @@ pub next-by : (m : Counts) (e o : ℕ) {a b c : Bool} → eqb e (m .e + 1) ≡ a
 next-by m e o ea eb ec = cc
 
 -- what becomes of its slot, as the book is asked it
-pub admits : (m : Counts) (mem : List ℕ) (s : Slot) (k : ℕ) (r : Admitted) → k ≡ m .last → r ≡ admitOf (slotsIn k mem) (rowsIn (m .orders) mem) (loadIn m) s
-    → admitOf (slotsIn (m .last) mem) (rowsIn (m .orders) mem) (loadIn m) s ≡ r
-admits m mem s k r e f = ap (λ (n : ℕ). admitOf (slotsIn n mem) (rowsIn (m .orders) mem) (loadIn m) s) (sym e) ∙ sym f
+pub admits : (m : Counts) (mem : List ℕ) (s : Slot) (k : ℕ) (load : Load) (r : Admitted) → k ≡ m .last → load ≡ loadIn m
+    → r ≡ admitOf (slotsIn k mem) (rowsIn (load .orders) mem) load s → admitOf (slotsIn (m .last) mem) (rowsIn (m .orders) mem) (loadIn m) s ≡ r
+admits m mem s k load r e el f = ap₂ (λ (n : ℕ) (l : Load). admitOf (slotsIn n mem) (rowsIn (l .orders) mem) l s) (sym e) (sym el) ∙ sym f
 
 module _ (m : Counts) (mem : List ℕ) (e o : ℕ) (s : Slot) where
   pub books-out : isNext m e o ≡ false → false ≡ lawful (keptIn m mem) (Books e o s)

@@ -6,7 +6,7 @@ ghost use lib.ListN.{length};
 ghost use Rattle.book.specs.Memory.{bookWidth};
 ghost use Rattle.note.specs.Notes.{Raises, Books, Acks, Clears, readNote, told as said};
 ghost use Rattle.note.specs.Kept.{lawful, empty};
-ghost use Rattle.restart.specs.Restart.{restart, countsOf, Restarts};
+ghost use Rattle.restart.specs.Restart.{restart, countsOf, loadIn, Restarts};
 ghost use Rattle.restart.specs.Steps.{keptIn, bare, raised, isNext, stepNote, Takes, Steps, Replays};
 use answer::NINE_DIGITS;
 use book::Admitted;
@@ -44,6 +44,17 @@ fn wide(n: u32) -> usize
     ensures { λ r. ⌜ (r ≡ n) × (r ≤ 4294967295) ⌝ }
 {
     n as usize
+}
+
+// The load that is among the counts, as the book asks for it.
+pub fn load_in(m: Counts) -> Load
+    ensures { λ r. ⌜ r ≡ loadIn m ⌝ }
+{
+    Load {
+        fills: m.fills,
+        orders: m.orders,
+        entries: m.entries,
+    }
 }
 
 // "S raises E or O".
@@ -177,12 +188,7 @@ fn step_books(mem: &mut [u8; BOOK], m: Counts, e: u32, o: u32, slot: &[u8]) -> S
     if !fill::is_lawful(slot) {
         return Step::Bad;
     }
-    let load = Load {
-        fills: m.fills,
-        orders: m.orders,
-        entries: m.entries,
-    };
-    match book::admit(mem, last, load, slot) {
+    match book::admit(mem, last, load_in(m), slot) {
         Admitted::Clash(_) => Step::Bad,
         Admitted::Already => Step::Bad,
         Admitted::Full => Step::Bad,

@@ -8,7 +8,6 @@ ghost use Rattle.page.specs.Page.{pageOf};
 ghost use Rattle.listing.specs.Listing.{bookListed};
 ghost use Rattle.totals.specs.Totals.{rowLine, rowLines, dayLine, totalsIn, marksFrom, totalsOf, mostRowLine, mostDayLine, mostTotals, Stands, Totals};
 use book::BOOK;
-use book::Load;
 use page::OrderRow;
 use page::Paged;
 use queue::Marks;
@@ -26,12 +25,7 @@ pub const TOTALS: usize = 5391;
 fn marks_from(m: Counts) -> Marks
     ensures { λ r. ⌜ r ≡ marksFrom m ⌝ }
 {
-    let load = Load {
-        fills: m.fills,
-        orders: m.orders,
-        entries: m.entries,
-    };
-    Marks::again(m.last, load, m.acked, m.day)
+    Marks::again(m.last, restart::load_in(m), m.acked, m.day)
 }
 
 // The line of an order.

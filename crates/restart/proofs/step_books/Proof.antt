@@ -41,7 +41,8 @@ add-t18 : tie.Need-add-t18
 add-t18 c =
     let booking = c .before .before .before .before .before .before in
     let admit = booking .before .before in
-    let left = admit .before .before in
+    let counted = admit .before in
+    let left = counted .before .before in
     let step = left .before .before in
     let far = step .before .before in
     let a = far .before .before .args in
@@ -51,7 +52,7 @@ add-t18 c =
     let next = sym (step .before .is-next .ensures) ∙ not-false _ (step .if1 .left) in
     let good = sym (left .before .is-lawful .ensures) ∙ not-false _ (left .if2 .left) in
     let w = far .wide .ensures .0 in
-    let r = admits (a .m) m s _ _ w (admit .admit .ensures) in
+    let r = admits (a .m) m s _ _ _ w (counted .load-in .ensures) (admit .admit .ensures) in
     let b = admitted-new ss (rowsIn (a .m .orders) m) (loadIn (a .m)) s (r ∙ booking .booking .given .1) in
     let t = books-next (a .m) m (a .e) (a .o) s next (bookable-by ss (rowsIn (a .m .orders) m) (loadIn (a .m)) s good (ap isNew (b .0)) (b .1)) in
     omega (arith, last-few (a .m) m (a .e) (a .o) s t)
@@ -60,7 +61,8 @@ add-t18 c =
 returns-3 : tie.Need-returns-3
 returns-3 c =
     let admit = c .before .before in
-    let left = admit .before .before in
+    let counted = admit .before in
+    let left = counted .before .before in
     let step = left .before .before in
     let far = step .before .before in
     let a = far .before .before .args in
@@ -70,7 +72,7 @@ returns-3 c =
     let next = sym (step .before .is-next .ensures) ∙ not-false _ (step .if1 .left) in
     let good = sym (left .before .is-lawful .ensures) ∙ not-false _ (left .if2 .left) in
     let w = far .wide .ensures .0 in
-    let r = admits (a .m) m s _ _ w (admit .admit .ensures) in
+    let r = admits (a .m) m s _ _ _ w (counted .load-in .ensures) (admit .admit .ensures) in
     let f = admitted-clash ss (rowsIn (a .m .orders) m) (loadIn (a .m)) s (r ∙ c .enum-told .given .1) in
     let t = books-next (a .m) m (a .e) (a .o) s next (bookable-by ss (rowsIn (a .m .orders) m) (loadIn (a .m)) s good (ap isNew f) refl) in
     (step-no (keptIn (a .m) m) (Books (a .e) (a .o) s) t, mem-no m (keptIn (a .m) m) (a .e) (a .o) s t)
@@ -79,7 +81,8 @@ returns-3 c =
 returns-4 : tie.Need-returns-4
 returns-4 c =
     let admit = c .before .before in
-    let left = admit .before .before in
+    let counted = admit .before in
+    let left = counted .before .before in
     let step = left .before .before in
     let far = step .before .before in
     let a = far .before .before .args in
@@ -89,7 +92,7 @@ returns-4 c =
     let next = sym (step .before .is-next .ensures) ∙ not-false _ (step .if1 .left) in
     let good = sym (left .before .is-lawful .ensures) ∙ not-false _ (left .if2 .left) in
     let w = far .wide .ensures .0 in
-    let r = admits (a .m) m s _ _ w (admit .admit .ensures) in
+    let r = admits (a .m) m s _ _ _ w (counted .load-in .ensures) (admit .admit .ensures) in
     let f = admitted-already ss (rowsIn (a .m .orders) m) (loadIn (a .m)) s (r ∙ c .enum-told2 .given .1) in
     let t = books-next (a .m) m (a .e) (a .o) s next (bookable-by ss (rowsIn (a .m .orders) m) (loadIn (a .m)) s good (ap isNew f) refl) in
     (step-no (keptIn (a .m) m) (Books (a .e) (a .o) s) t, mem-no m (keptIn (a .m) m) (a .e) (a .o) s t)
@@ -98,7 +101,8 @@ returns-4 c =
 returns-5 : tie.Need-returns-5
 returns-5 c =
     let admit = c .before .before in
-    let left = admit .before .before in
+    let counted = admit .before in
+    let left = counted .before .before in
     let step = left .before .before in
     let far = step .before .before in
     let a = far .before .before .args in
@@ -108,7 +112,7 @@ returns-5 c =
     let next = sym (step .before .is-next .ensures) ∙ not-false _ (step .if1 .left) in
     let good = sym (left .before .is-lawful .ensures) ∙ not-false _ (left .if2 .left) in
     let w = far .wide .ensures .0 in
-    let r = admits (a .m) m s _ _ w (admit .admit .ensures) in
+    let r = admits (a .m) m s _ _ _ w (counted .load-in .ensures) (admit .admit .ensures) in
     let f = admitted-full ss (rowsIn (a .m .orders) m) (loadIn (a .m)) s (r ∙ c .enum-told3 .given .1) in
     let t = books-next (a .m) m (a .e) (a .o) s next (bookable-by ss (rowsIn (a .m .orders) m) (loadIn (a .m)) s good (ap isNew (f .0)) (f .1)) in
     (step-no (keptIn (a .m) m) (Books (a .e) (a .o) s) t, mem-no m (keptIn (a .m) m) (a .e) (a .o) s t)
@@ -118,7 +122,8 @@ returns-6 : tie.Need-returns-6
 returns-6 c =
     let booking = c .before .before .before .before .before .before .before in
     let admit = booking .before .before in
-    let left = admit .before .before in
+    let counted = admit .before in
+    let left = counted .before .before in
     let step = left .before .before in
     let far = step .before .before in
     let a = far .before .before .args in
@@ -128,7 +133,7 @@ returns-6 c =
     let next = sym (step .before .is-next .ensures) ∙ not-false _ (step .if1 .left) in
     let good = sym (left .before .is-lawful .ensures) ∙ not-false _ (left .if2 .left) in
     let w = far .wide .ensures .0 in
-    let r = admits (a .m) m s _ _ w (admit .admit .ensures) in
+    let r = admits (a .m) m s _ _ _ w (counted .load-in .ensures) (admit .admit .ensures) in
     let b = admitted-new ss (rowsIn (a .m .orders) m) (loadIn (a .m)) s (r ∙ booking .booking .given .1) in
     let t = books-next (a .m) m (a .e) (a .o) s next (bookable-by ss (rowsIn (a .m .orders) m) (loadIn (a .m)) s good (ap isNew (b .0)) (b .1)) in
     let given = far .before .before .good .1 .0 in
@@ -146,6 +151,7 @@ step-books-spec =
     returns
     (λ c κs. search needs)
     returns-2
+    (λ c κs. search needs)
     (λ c κs. search needs)
     (λ c. search needs)
     (λ c. search needs)
