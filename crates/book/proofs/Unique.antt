@@ -8,6 +8,7 @@ use Rattle.book.proofs.rows.day_with as day-with
 use Rattle.book.proofs.rows.head_of as head-of
 use Rattle.book.proofs.rows.row_in as row-in
 use Rattle.book.proofs.rows.take_off as take-off
+use Rattle.book.proofs.rows.waits_in as waits-in
 use Rattle.book.proofs.slot_at as slot-at
 
 pub admit-one : Once admit.ended (λ M 𝓤. admit.clauses 𝓤) (λ κs r e. r)
@@ -21,6 +22,9 @@ take-off-one M 𝓤 H A mem run κs a g = (_, λ r e. paired 𝓤)
 
 pub head-of-one : Once head-of.ended (λ M 𝓤. head-of.clauses 𝓤) (λ κs r e. r .now)
 head-of-one M 𝓤 H A mem run κs a g = (_, λ r e. alone 𝓤)
+
+pub waits-in-one : Once waits-in.ended (λ M 𝓤. waits-in.clauses 𝓤) (λ κs r e. r)
+waits-in-one M 𝓤 H A mem run κs a g = (_, λ r e. alone 𝓤)
 
 pub slot-at-one : Once slot-at.ended (λ M 𝓤. slot-at.clauses 𝓤) (λ κs r e. r .now)
 slot-at-one M 𝓤 H A mem run κs a g = (_, λ r e. alone 𝓤)

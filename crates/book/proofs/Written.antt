@@ -26,7 +26,7 @@ use Rattle.fill.specs.Slot.{Slot, slotWidth, isFill, isEntry, sharesOf}
 use Rattle.book.specs.Place.{mostOrders, ordersWith}
 use Rattle.book.specs.Admitting.{hasRoom, loadWith}
 use Rattle.book.specs.declared.Load.{Load}
-use Rattle.book.specs.Rows.{Row, rowWidth, firstIn, bookedIn, waitsIn, rowOf, numbered, headOf, isRowOf, before, rowPlace, raised, lowered, isKnown, onFirst, moreOf, rowsWith, rowsLess, dayLess, rowsWithout, dayWithout}
+use Rattle.book.specs.Rows.{Row, rowWidth, firstIn, bookedIn, waitsIn, rowOf, numbered, headOf, isRowOf, before, rowPlace, rowTo, raised, lowered, isKnown, onFirst, moreOf, rowsWith, rowsLess, dayLess, rowsWithout, dayWithout}
 use Rattle.book.specs.Memory.{regionOf, slotsHere, rowsHere, mostSlots, bookWidth, cells, cellAt, laid, slotsIn, slotAt, fitsAfter, appended, rowsIn, rowAt, rowPut, rowMore, rowFewer, entered, holding, between}
 use Rattle.book.specs.Seeing.{RowsAlone, TakesOne}
 use Rattle.book.proofs.Cells.{cells-length, cells-nth, cells-step, cells-drop, cells-end, joined-cells, cell-within}
@@ -343,7 +343,7 @@ module _ (m : List ℕ) (whole : length m ≡ bookWidth) (count : ℕ) (load : L
 
   -- where its row stands, as a booking has it
   abbrev row : ℕ
-  row = cond (isEntry s) 0 (rowPlace ss old s)
+  row = rowTo ss old s
 
   left : count < mostSlots
   left = omega (arith, slots-length count m, has-room ss old load s room .slot-left)

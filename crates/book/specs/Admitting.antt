@@ -8,7 +8,7 @@ use Rattle.answer.specs.Numbers.{largest}
 use Rattle.fill.specs.Slot.{Slot, isEntry}
 use Rattle.book.specs.Memory.{mostSlots}
 use Rattle.book.specs.Place.{sameExec, placeFill, fillRoom, fillsWith, ordersWith, steps}
-use Rattle.book.specs.Rows.{Row, rowPlace, firstFor, bookedFor, isKnown}
+use Rattle.book.specs.Rows.{Row, rowTo, firstFor, bookedFor, isKnown}
 use Rattle.book.specs.Entries.{sameKey, placeEntry, entryRoom}
 use Rattle.book.specs.declared.Load.{Load}
 use Rattle.book.specs.declared.Booking.{Booking}
@@ -59,7 +59,7 @@ stopped load = record { fills = min (load .fills) largest; orders = min (load .o
 unfoldable pub bookingOf : List Slot → List Row → Load → Slot → Booking
 bookingOf ss rows load s = record {
   load = stopped (loadWith ss rows load s);
-  row = cond (isEntry s) 0 (rowPlace ss rows s);
+  row = rowTo ss rows s;
   stepped = not (isEntry s) && inStep ss rows s;
 }
 

@@ -9,7 +9,7 @@ use Rattle.octet.specs.Bytes.{part}
 use Rattle.octet.specs.Places.{high, bigEndian}
 use Rattle.octet.specs.Maybe.{find, isNone}
 use Rattle.answer.specs.Numbers.{counted}
-use Rattle.fill.specs.Slot.{Slot, isFill, sharesOf}
+use Rattle.fill.specs.Slot.{Slot, isFill, isEntry, sharesOf}
 use Rattle.book.specs.Place.{sameOrder}
 
 abbrev pub Row : Type 0
@@ -58,6 +58,10 @@ before p (x ∷ xs) = let more = suc (before p xs) in cond (p x) 0 more
 -- where that row stands among them; behind the last where there is none
 unfoldable pub rowPlace : List Slot → List Row → Slot → ℕ
 rowPlace ss rows f = before (isRowOf ss f) rows
+
+-- where the row of any slot's order stands; an entry has none, and 0 is said
+abbrev pub rowTo : List Slot → List Row → Slot → ℕ
+rowTo ss rows s = cond (isEntry s) 0 (rowPlace ss rows s)
 
 -- ---- what is known of an order by its row: its first fill, and the contracts booked
 

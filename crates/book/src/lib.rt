@@ -25,12 +25,14 @@ use answer::tags;
 use entries::admit_entry;
 use fill::ID;
 use fill::SLOT;
+use rows::booked_in;
 pub use rows::day_with;
 use rows::find_row;
 pub use rows::head_of;
 use rows::more_in_row;
 pub use rows::row_in;
 pub use rows::take_off;
+pub use rows::waits_in;
 
 // A slot among the day's: at odds with one of them, already booked, or new.
 pub enum Placed {
@@ -93,7 +95,7 @@ const SLOTS_SIZE: usize = SLOTS * SLOT;
 // Of a row: the number of its first fill, the contracts booked, and those that wait, four bytes each.
 const ROW: usize = 12;
 
-const ROWS: usize = 128;
+pub const ROWS: usize = 128;
 
 const ROWS_AT: usize = SLOTS_SIZE;
 
@@ -104,7 +106,7 @@ pub const BOOK: usize = SLOTS_SIZE + ROWS_SIZE;
 // "512 fills, 128 orders"; "also at 256 such entries".
 const FILLS: u32 = 512;
 
-const ORDERS: u32 = 128;
+pub const ORDERS: u32 = ROWS as u32;
 
 const ENTRIES: u32 = 256;
 
@@ -427,7 +429,7 @@ fn admit_new(book: &[u8; BOOK], last: usize, load: Load, slot: &[u8], known: boo
                     entries: load.entries,
                 },
                 row: place,
-                stepped: in_step(slot, first, octet::four_at(row, 4)),
+                stepped: in_step(slot, first, booked_in(row)),
             })
         }
     }

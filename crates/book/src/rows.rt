@@ -15,9 +15,35 @@ ghost use Prim.Native.Nat.{_-_, _<_, _*_, _+_, min};
 ghost use lib.ListN.{getD};
 ghost use mathlib.Core.List.{[]};
 ghost use Rattle.book.specs.Place.{mostOrders};
-ghost use Rattle.book.specs.Rows.{rowWidth, rowOf, headOf, rowPlace, dayWith};
+ghost use Rattle.book.specs.Rows.{rowWidth, firstIn, bookedIn, waitsIn, rowOf, headOf, rowPlace, dayWith};
 ghost use Rattle.book.specs.Memory.{mostSlots, rowsHere, slotsIn, slotAt, rowsIn, rowAt, rowPut, rowMore, rowFewer, TakesOff};
 ghost use Rattle.book.specs.Seeing.{OtherRow, TakesOne};
+
+// A row begins with the first of its three numbers, and has the others here.
+const BOOKED_AT: usize = 4;
+
+const WAITS_AT: usize = 8;
+
+// The number of the first fill of a row's order.
+fn first_in(row: &[u8]) -> u32
+    ensures { λ r. ⌜ r ≡ firstIn (now (row .entry)) ⌝ }
+{
+    octet::four_at(row, 0)
+}
+
+// The contracts booked of it.
+pub(crate) fn booked_in(row: &[u8]) -> u32
+    ensures { λ r. ⌜ r ≡ bookedIn (now (row .entry)) ⌝ }
+{
+    octet::four_at(row, BOOKED_AT)
+}
+
+// The contracts of a row's order that wait.
+pub fn waits_in(row: &[u8]) -> u32
+    ensures { λ r. ⌜ r ≡ waitsIn (now (row .entry)) ⌝ }
+{
+    octet::four_at(row, WAITS_AT)
+}
 
 // How many of so many orders have a row in the memory.
 pub(crate) fn inside_rows(orders: usize) -> usize
@@ -58,7 +84,7 @@ pub fn row_in(book: &[u8; BOOK], orders: usize, i: usize) -> &[u8]
 pub fn head_of<'a>(book: &'a [u8; BOOK], last: usize, row: &[u8]) -> &'a [u8]
     ensures { λ r. ⌜ now r ≡ headOf (slotsIn last (now (book .entry))) (now (row .entry)) ⌝ }
 {
-    let n = octet::four_at(row, 0) as usize;
+    let n = first_in(row) as usize;
     if n == 0 {
         return octet::part(book, BOOK, 0);
     }
@@ -73,7 +99,7 @@ pub fn head_of<'a>(book: &'a [u8; BOOK], last: usize, row: &[u8]) -> &'a [u8]
 fn is_other(book: &[u8; BOOK], last: usize, row: &[u8], order: Glance) -> bool
     ensures { λ r. ⌜ OtherRow (slotsIn last (now (book .entry))) (now (row .entry)) order r ⌝ }
 {
-    let n = octet::four_at(row, 0) as usize;
+    let n = first_in(row) as usize;
     if n == 0 {
         return true;
     }
@@ -115,8 +141,8 @@ fn put_row(book: &mut [u8; BOOK], i: usize, first: u32, booked: u32, waits: u32)
     if i < ROWS {
         let at = row_place(i);
         octet::put_four(book, at, first);
-        octet::put_four(book, at + 4, booked);
-        octet::put_four(book, at + 8, waits);
+        octet::put_four(book, at + BOOKED_AT, booked);
+        octet::put_four(book, at + WAITS_AT, waits);
     }
 }
 
@@ -133,9 +159,9 @@ pub(crate) fn more_in_row(
 {
     let q = fill::shares_of(slot);
     if row < orders {
-        let first = octet::four_at(row_at(book, row), 0);
-        let booked = octet::four_at(row_at(book, row), 4);
-        let waits = octet::four_at(row_at(book, row), 8);
+        let first = first_in(row_at(book, row));
+        let booked = booked_in(row_at(book, row));
+        let waits = waits_in(row_at(book, row));
         put_row(
             book,
             row,
@@ -170,9 +196,9 @@ fn less_in_row(book: &mut [u8; BOOK], orders: usize, row: usize, q: u32)
     ensures { λ r. ⌜ now (book .exit) ≡ rowFewer (now (book .entry)) orders row q ⌝ }
 {
     if row < orders {
-        let first = octet::four_at(row_at(book, row), 0);
-        let booked = octet::four_at(row_at(book, row), 4);
-        let waits = octet::four_at(row_at(book, row), 8);
+        let first = first_in(row_at(book, row));
+        let booked = booked_in(row_at(book, row));
+        let waits = waits_in(row_at(book, row));
         put_row(book, row, first, booked, less(waits, q));
     }
 }

@@ -6,6 +6,7 @@ ghost use Rattle.book.specs.Place.{mostOrders};
 ghost use Rattle.page.specs.Page.{rowOf, ordersOf, toldOf, dueOf, Pages};
 use answer::Refusal;
 use book::BOOK;
+use book::ORDERS;
 use queue::Marks;
 
 // The OrderID, "a length byte and zero padding", and the contracts of the order that wait.
@@ -22,9 +23,7 @@ pub enum Paged {
 }
 
 // As many rows are lent at least, of however few orders.
-const ROWS: usize = 128;
-
-const ORDERS: u32 = 128;
+pub const ROWS: usize = book::ROWS;
 
 // How many orders a page shows.
 fn orders_of(marks: Marks) -> u32
@@ -67,7 +66,7 @@ pub fn row_of(marks: Marks, book: &[u8; BOOK], i: usize) -> OrderRow
     octet::copy_into(&mut id, 0, fill::order_of(head));
     OrderRow {
         id,
-        waiting: octet::four_at(row, 8),
+        waiting: book::waits_in(row),
     }
 }
 

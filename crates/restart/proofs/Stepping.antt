@@ -13,10 +13,10 @@ use Rattle.octet.proofs.Cases.{cond-true, cond-false, of-cond, and-no-left, boo
 use Rattle.octet.specs.Bytes.{joined}
 use Rattle.octet.proofs.Lists.{drop-done, splice-length}
 use Rattle.answer.specs.Numbers.{largest, nineDigits}
-use Rattle.fill.specs.Slot.{Slot, slotWidth, isEntry}
+use Rattle.fill.specs.Slot.{Slot, slotWidth}
 use Rattle.fill.specs.Booked.{slotLawful}
 use Rattle.book.specs.Memory.{mostSlots, bookWidth, regionOf, slotsHere, rowsHere, slotsIn, rowsIn, laid, entered, holding, between, TakesOff}
-use Rattle.book.specs.Rows.{Row, rowWidth, rowPlace, dayWith, rowsWithout, dayWithout}
+use Rattle.book.specs.Rows.{Row, rowWidth, rowTo, dayWith, rowsWithout, dayWithout}
 use Rattle.book.specs.Place.{isNew, mostOrders}
 use Rattle.book.specs.Admitting.{place, hasRoom, noLoad, loadWith, bookingOf, admitOf}
 use Rattle.book.specs.declared.Admitted.{Admitted}
@@ -142,7 +142,7 @@ kept-after m mem (Books e o s) l w t =
     let room = bookable-facts ss rows (loadIn m) s (lawful-books q e o s t .3) .2 in
     let f : length ss ≡ m .last = last-is m mem in
     let n : length (ss ++ (s ∷ [])) ≡ m .last + 1 = omega (arith, length-append ss (s ∷ [])) in
-    let row : ℕ = cond (isEntry s) 0 (rowPlace ss rows s) in
+    let row : ℕ = rowTo ss rows s in
     let mem′ : cond (lawful q (Books e o s)) (entered mem (length ss) (m .orders) row s) mem ≡ entered mem (m .last) (m .orders) row s =
     cond-true (lawful q (Books e o s)) (entered mem (length ss) (m .orders) row s) mem t ∙ ap (λ (k : ℕ). entered mem k (m .orders) row s) f in
     ap₂ (λ (x : List Slot) (y : List Row). kept e o x y (loadWith ss rows (loadIn m) s) (m .acked) (dayWith (m .day) s))
@@ -271,7 +271,7 @@ mem-length mem q Unknown = refl
 mem-length mem q (Whole (Raises e o) n) = refl
 mem-length mem q (Whole (Books e o s) n) =
     of-cond (λ (l : List ℕ). length l ≡ length mem) (lawful q (Books e o s))
-    (λ t. entered-length mem (length (q .slots)) (q .load .orders) (cond (isEntry s) 0 (rowPlace (q .slots) (q .rows) s)) s) (λ t. refl)
+    (λ t. entered-length mem (length (q .slots)) (q .load .orders) (rowTo (q .slots) (q .rows) s) s) (λ t. refl)
 mem-length mem q (Whole (Acks k) n) =
     of-cond (λ (l : List ℕ). length l ≡ length mem) (lawful q (Acks k))
     (λ t. splice-length mem (rowsHere .at) (joined (rowsWithout (q .slots) (q .rows) (between (q .acked) k (q .slots))))) (λ t. refl)
@@ -316,7 +316,7 @@ mem-clears mem q = refl
 pub mem-no : (mem : List ℕ) (q : Kept) (e o : ℕ) (s : Slot) → false ≡ lawful q (Books e o s) → mem ≡ memNote mem q (Books e o s)
 unfolding memNote
 mem-no mem q e o s t =
-    sym (cond-false (lawful q (Books e o s)) (entered mem (length (q .slots)) (q .load .orders) (cond (isEntry s) 0 (rowPlace (q .slots) (q .rows) s)) s) mem (sym t))
+    sym (cond-false (lawful q (Books e o s)) (entered mem (length (q .slots)) (q .load .orders) (rowTo (q .slots) (q .rows) s) s) mem (sym t))
 
 module _ (m : Counts) (mem : List ℕ) (e o : ℕ) (s : Slot) (t : true ≡ lawful (keptIn m mem) (Books e o s)) where
   abbrev ss : List Slot
@@ -332,7 +332,7 @@ module _ (m : Counts) (mem : List ℕ) (e o : ℕ) (s : Slot) (t : true ≡ lawf
       h
       ∙ ap₂ (λ (k n : ℕ). entered mem k n row s) (el ∙ sym (last-is m mem)) eo
       ∙ ap (λ (k : ℕ). entered mem (length ss) (m .orders) k s) er
-      ∙ sym (cond-true (lawful (keptIn m mem) (Books e o s)) (entered mem (length ss) (m .orders) (cond (isEntry s) 0 (rowPlace ss rows s)) s) mem (sym t))
+      ∙ sym (cond-true (lawful (keptIn m mem) (Books e o s)) (entered mem (length ss) (m .orders) (rowTo ss rows s) s) mem (sym t))
 
   room : hasRoom ss rows (loadIn m) s ≡ true
   room = bookable-facts ss rows (loadIn m) s (lawful-books (keptIn m mem) e o s (sym t) .3) .2

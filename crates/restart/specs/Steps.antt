@@ -6,8 +6,7 @@ use mathlib.Core.Path.{_≡_}
 use lib.ListN.{length}
 use lib.Dec.{leb, ltb, eqb}
 use Rattle.answer.specs.Numbers.{nineDigits}
-use Rattle.fill.specs.Slot.{isEntry}
-use Rattle.book.specs.Rows.{rowPlace, rowsWithout}
+use Rattle.book.specs.Rows.{rowTo, rowsWithout}
 use Rattle.book.specs.Memory.{bookWidth, slotsIn, rowsHere, rowsIn, laid, entered, between}
 use Rattle.note.specs.Notes.{Note, Raises, Books, Acks, Clears, Reading, Whole, Part, Unknown}
 use Rattle.note.specs.Kept.{Kept, lawful, after}
@@ -53,7 +52,7 @@ stepRead q Unknown = step.Bad
 unfoldable pub memNote : List ℕ → Kept → Note → List ℕ
 memNote mem q (Raises e o) = mem
 memNote mem q (Books e o s) =
-    cond (lawful q (Books e o s)) (entered mem (length (q .slots)) (q .load .orders) (cond (isEntry s) 0 (rowPlace (q .slots) (q .rows) s)) s) mem
+    cond (lawful q (Books e o s)) (entered mem (length (q .slots)) (q .load .orders) (rowTo (q .slots) (q .rows) s) s) mem
 memNote mem q (Acks n) = cond (lawful q (Acks n)) (laid rowsHere mem (rowsWithout (q .slots) (q .rows) (between (q .acked) n (q .slots)))) mem
 memNote mem q Clears = mem
 

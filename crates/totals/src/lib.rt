@@ -10,13 +10,11 @@ ghost use Rattle.totals.specs.Totals.{rowLine, rowLines, dayLine, totals
 use book::BOOK;
 use page::OrderRow;
 use page::Paged;
+use page::ROWS;
 use queue::Marks;
 use restart::Counts;
 use restart::Restarted;
 use text::Text;
-
-// The rows that a page asks for.
-const ROWS: usize = 128;
 
 // So many bytes are always enough: a line of 42 bytes for each of 128 orders, and 15.
 pub const TOTALS: usize = 5391;

@@ -78,7 +78,7 @@ returns-4 c =
     let known = there-by ss rows (a .load) f k ek in
     let room = sym (room-by (a .last) (a .load) k (now (a .book)) rows f h known) ∙ sym (c .before .before .before .before .before .has-room .ensures) ∙ not-false _ (c .before .before .before .before .if1 .left) in
     let row = c .before .before .before .before .before .before .before .before .before .before .row-in .ensures ∙ ap (λ (n : ℕ). getD rows n []) (c .before .before .before .before .before .before .before .before .before .before .before .before .place-row .ensures) in
-    let step = step-by ss rows (a .load) f k ek _ _ (c .before .four-at .ensures ∙ ap bookedIn row ∙ booked-found ss rows f) (c .in-step .ensures) in
+    let step = step-by ss rows (a .load) f k ek _ _ (c .before .booked-in .ensures ∙ ap bookedIn row ∙ booked-found ss rows f) (c .in-step .ensures) in
     let fits : a .load .entries ≤ largest = omega (arith, start .good .1 .1 .0) in
     let booking = booking-by ss rows (a .load) f k ek _ _ _ _ h fits (c .before .before .before .fills-with .ensures) (c .before .before .orders-with .ensures) (c .before .before .before .before .before .before .before .before .before .before .before .before .place-row .ensures) step in
     ap admitted.New booking ∙ sym (admit-new ss rows (a .load) f (placed (c .before .before .before .before .before .before .before .before) ∙ c .before .before .before .before .before .before .enum-told2 .given .1) room)

@@ -1,3 +1,4 @@
+-- `page::row_of` meets its contract.
 use Prim.Native.Nat.{ℕ}
 use Rattle.book.specs.Memory.{slotsIn, rowsIn}
 use Rattle.book.specs.Rows.{Row, headOf, waitsIn}
@@ -24,7 +25,7 @@ returns c =
     ap₂ made
     (c .before .before .copy-into .ensures .1
     ∙ ap (λ (x : List ℕ). splice (replicate 31 0) 0 x) (c .before .before .before .order-of .ensures ∙ ap orderOf (c .before .before .before .before .before .head-of .ensures)))
-    (c .four-at .ensures)
+    (c .waits-in .ensures)
     ∙ ap (rowAs ss) (c .before .before .before .before .before .before .before .row-in .ensures)
 
 pub row-of-spec : {M : Type 1} → statement M

@@ -20,12 +20,12 @@ none : (f : Slot) {s : Slot} → s ≡ [] → sameOrder f s ≡ false
 none f e = ap (sameOrder f) e ∙ order-empty f
 
 returns : tie.Need-returns
-returns c = let a = c .before .before .before .args in λ f word e. none f (head-none (a .last) (now (a .book)) (now (a .row)) (sym (c .before .four-at .ensures) ∙ c .if1 .taken))
+returns c = let a = c .before .before .before .args in λ f word e. none f (head-none (a .last) (now (a .book)) (now (a .row)) (sym (c .before .first-in .ensures) ∙ c .if1 .taken))
 
 returns-2 : tie.Need-returns-2
 returns-2 c =
     let a = c .before .before .before .before .args in
-    let n = c .before .before .four-at .ensures in
+    let n = c .before .before .first-in .ensures in
     λ f word e. none f (head-past (a .last) (now (a .book)) (now (a .row)) (omega arith))
 
 returns-3 : tie.Need-returns-3
@@ -36,8 +36,8 @@ returns-4 : tie.Need-returns-4
 returns-4 c =
     let a = c .before .before .before .before .before .before .before .before .before .args in
     let m = now (a .book) in
-    let n = c .before .before .before .before .before .before .before .four-at .ensures in
-    let i = c .before .before .before .before .before .before .before .four-at .result - 1 in
+    let n = c .before .before .before .before .before .before .before .first-in .ensures in
+    let i = c .before .before .before .before .before .before .before .first-in .result - 1 in
     let s = slotAt i m in
     let at = a .order .at in
     λ f word e. ap (sameOrder f) (head-slot (a .last) m (now (a .row)) i (omega arith) (omega arith))

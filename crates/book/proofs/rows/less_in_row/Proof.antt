@@ -11,9 +11,9 @@ use Rattle.book.proofs.rows.less_in_row.Tie as tie
 returns : tie.Need-returns
 returns c =
     let a = c .before .before .before .before .before .before .before .before .before .before .before .before .before .args in
-    let first = c .before .before .before .before .before .before .before .before .before .four-at .ensures ∙ ap firstIn (c .before .before .before .before .before .before .before .before .before .before .row-at .ensures) in
-    let booked = c .before .before .before .before .before .before .four-at2 .ensures ∙ ap bookedIn (c .before .before .before .before .before .before .before .row-at2 .ensures) in
-    let waits = c .before .before .before .four-at3 .ensures ∙ ap waitsIn (c .before .before .before .before .row-at3 .ensures) in
+    let first = c .before .before .before .before .before .before .before .before .before .first-in .ensures ∙ ap firstIn (c .before .before .before .before .before .before .before .before .before .before .row-at .ensures) in
+    let booked = c .before .before .before .before .before .before .booked-in .ensures ∙ ap bookedIn (c .before .before .before .before .before .before .before .row-at2 .ensures) in
+    let waits = c .before .before .before .waits-in .ensures ∙ ap waitsIn (c .before .before .before .before .row-at3 .ensures) in
     c .put-row .ensures
     ∙ fewer-old (now (a .book)) (a .row) (a .orders) _ _ _ (a .q) (omega arith) first booked (c .before .less .ensures ∙ ap (λ (n : ℕ). n - a .q) waits)
 

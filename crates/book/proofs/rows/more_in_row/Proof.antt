@@ -14,9 +14,9 @@ returns : tie.Need-returns
 returns c =
     let a = c .before .before .before .before .before .before .before .before .before .before .before .before .before .before .before .before .args in
     let q = c .before .before .before .before .before .before .before .before .before .before .before .before .before .before .shares-of .ensures in
-    let first = c .before .before .before .before .before .before .before .before .before .before .four-at .ensures ∙ ap firstIn (c .before .before .before .before .before .before .before .before .before .before .before .row-at .ensures) in
-    let booked = c .before .before .before .before .before .before .before .four-at2 .ensures ∙ ap bookedIn (c .before .before .before .before .before .before .before .before .row-at2 .ensures) in
-    let waits = c .before .before .before .before .four-at3 .ensures ∙ ap waitsIn (c .before .before .before .before .before .row-at3 .ensures) in
+    let first = c .before .before .before .before .before .before .before .before .before .before .first-in .ensures ∙ ap firstIn (c .before .before .before .before .before .before .before .before .before .before .before .row-at .ensures) in
+    let booked = c .before .before .before .before .before .before .before .booked-in .ensures ∙ ap bookedIn (c .before .before .before .before .before .before .before .before .row-at2 .ensures) in
+    let waits = c .before .before .before .before .waits-in .ensures ∙ ap waitsIn (c .before .before .before .before .before .row-at3 .ensures) in
     c .put-row .ensures
     ∙ more-old (now (a .book)) (a .row) (a .orders) _ _ _ (a .count) (now (a .slot)) (omega arith) first
     (c .before .before .count-on .ensures ∙ ap₂ counted booked q) (c .before .count-on2 .ensures ∙ ap₂ counted waits q)
