@@ -12,7 +12,7 @@ use Rattle.book.specs.Memory.{slotsIn, rowsIn}
 use Rattle.book.proofs.Regions.{rows-length}
 use Rattle.queue.specs.declared.Marks.{Marks}
 use Rattle.answer.specs.declared.Refusal.the-variants as refusal
-use Rattle.page.specs.Page.{ordersOf, dayOf, toldOf, dueOf, rowAs, rowOf, rowsFrom, pageOf}
+use Rattle.page.specs.Page.{shownOf, toldOf, dueOf, rowAs, rowOf, rowsFrom, pageOf}
 use Rattle.page.specs.declared.OrderRow.{OrderRow}
 use Rattle.page.specs.declared.Paged.the-variants as paged
 
@@ -20,7 +20,7 @@ pub told-few : (m : Marks) (lent : ℕ) → lent < mostOrders → toldOf m lent 
 unfolding toldOf
 told-few m lent h = simp (lt-ltb lent mostOrders h)
 
-pub told-all : (m : Marks) (lent : ℕ) → mostOrders ≤ lent → toldOf m lent ≡ paged.Shown (ordersOf m) (dayOf m)
+pub told-all : (m : Marks) (lent : ℕ) → mostOrders ≤ lent → toldOf m lent ≡ paged.Shown (shownOf m) (m .day)
 unfolding toldOf
 told-all m lent h = simp (le-ltb lent mostOrders h)
 
@@ -28,7 +28,7 @@ pub due-few : (m : Marks) (lent : ℕ) → lent < mostOrders → dueOf m lent �
 unfolding dueOf
 due-few m lent h = simp (lt-ltb lent mostOrders h)
 
-pub due-all : (m : Marks) (lent : ℕ) → mostOrders ≤ lent → dueOf m lent ≡ ordersOf m
+pub due-all : (m : Marks) (lent : ℕ) → mostOrders ≤ lent → dueOf m lent ≡ shownOf m
 unfolding dueOf
 due-all m lent h = simp (le-ltb lent mostOrders h)
 
@@ -36,7 +36,7 @@ due-all m lent h = simp (le-ltb lent mostOrders h)
 pub shown-most : (m : Marks) (lent n day : ℕ) → mostOrders ≤ lent → paged.Shown n day ≡ toldOf m lent → n ≤ mostOrders
 shown-most m lent n day h e =
     let f = e ∙ told-all m lent h in
-    let k : n ≡ ordersOf m = cc in
+    let k : n ≡ shownOf m = cc in
     omega arith
 
 -- ---- the rows

@@ -20,19 +20,17 @@ use Rattle.page.specs.declared.Paged.the-variants as paged
 abbrev pub fewRows : ℕ → Bool
 fewRows lent = ltb lent mostOrders
 
-abbrev pub ordersOf : Marks → ℕ
-ordersOf marks = min (marks .load .orders) mostOrders
+-- how many orders are shown
+abbrev pub shownOf : Marks → ℕ
+shownOf marks = min (marks .load .orders) mostOrders
 
--- the day's sum
-abbrev pub dayOf : Marks → ℕ
-dayOf marks = marks .day
-
+-- how many orders there are, and the day's sum
 unfoldable pub toldOf : Marks → ℕ → Paged
-toldOf marks lent = cond (fewRows lent) (paged.Refused refusal.ShortBuffer) (paged.Shown (ordersOf marks) (dayOf marks))
+toldOf marks lent = cond (fewRows lent) (paged.Refused refusal.ShortBuffer) (paged.Shown (shownOf marks) (marks .day))
 
 -- how many rows are written
 unfoldable pub dueOf : Marks → ℕ → ℕ
-dueOf marks lent = cond (fewRows lent) 0 (ordersOf marks)
+dueOf marks lent = cond (fewRows lent) 0 (shownOf marks)
 
 -- a row of the book as the page has it: the OrderID of its order's first fill in 31 bytes, "a length byte and zero padding", and the contracts that wait
 abbrev pub rowAs : List Slot → Row → OrderRow

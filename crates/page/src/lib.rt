@@ -3,7 +3,7 @@
 ghost use mathlib.Core.Path.{_≡_};
 ghost use Prim.Native.Nat.{_≤_};
 ghost use Rattle.book.specs.Place.{mostOrders};
-ghost use Rattle.page.specs.Page.{rowOf, ordersOf, toldOf, dueOf, Pages};
+ghost use Rattle.page.specs.Page.{rowOf, shownOf, toldOf, dueOf, Pages};
 use answer::Refusal;
 use book::BOOK;
 use book::ORDERS;
@@ -26,8 +26,8 @@ pub enum Paged {
 pub const ROWS: usize = book::ROWS;
 
 // How many orders a page shows.
-fn orders_of(marks: Marks) -> u32
-    ensures { λ r. ⌜ (r ≡ ordersOf marks) × (r ≤ mostOrders) ⌝ }
+fn shown_of(marks: Marks) -> u32
+    ensures { λ r. ⌜ (r ≡ shownOf marks) × (r ≤ mostOrders) ⌝ }
 {
     if marks.load.orders < ORDERS {
         return marks.load.orders;
@@ -42,7 +42,7 @@ pub fn told(marks: Marks, lent: usize) -> Paged
     if lent < ROWS {
         return Paged::Refused(Refusal::ShortBuffer);
     }
-    Paged::Shown(orders_of(marks), marks.day)
+    Paged::Shown(shown_of(marks), marks.day)
 }
 
 // How many rows are to be written: none where it is refused, and never more than there are.
@@ -52,7 +52,7 @@ fn due(marks: Marks, lent: usize) -> usize
     if lent < ROWS {
         return 0;
     }
-    orders_of(marks) as usize
+    shown_of(marks) as usize
 }
 
 // The row of order i, from 0: its OrderID stands in its first fill.

@@ -26,7 +26,7 @@ use Rattle.book.proofs.Stored.{Fits, orders-once, map-alike, first-there, head-
 use Rattle.note.specs.Kept.{Kept, empty, waiting}
 use Rattle.note.proofs.Keeping.{Sound, fits-in, sums-few, fills-all, rows-many}
 use Rattle.queue.specs.declared.Marks.{Marks}
-use Rattle.page.specs.Page.{Pages, rowAs, ordersOf as shownOrders, toldOf, dueOf, pageOf}
+use Rattle.page.specs.Page.{Pages, rowAs, shownOf, toldOf, dueOf, pageOf}
 use Rattle.page.specs.declared.OrderRow.{OrderRow}
 use Rattle.page.specs.declared.Paged.{Paged}
 use Rattle.page.specs.declared.Paged.the-variants as paged
@@ -157,7 +157,7 @@ shows q h m book x rows rows′ r p =
     let lent : ℕ = length rows in
     let orders : m .load .orders ≡ length (ordersOf (q .slots)) = ap (λ (l : Load). l .orders) (x .load) ∙ sym (rows-many q h) ∙ ap length (h .rows-all) ∙ rows-count (q .slots) (q .acked) in
     let few : m .load .orders ≤ mostOrders = omega (arith, ap (λ (l : Load). l .orders) (x .load), h .orders-few) in
-    let all : shownOrders m ≡ length (ordersOf (q .slots)) = omega arith in
+    let all : shownOf m ≡ length (ordersOf (q .slots)) = omega arith in
     let same-rows : pageOf m book (m .load .orders) ≡ map (orderRow q) (ordersOf (q .slots)) =
     page-rows m book ∙ ap₂ (λ (s : List Slot) (y : List Row). map (rowAs s) y) (x .slots) (x .rows) ∙ rows-shown q h in
     record {

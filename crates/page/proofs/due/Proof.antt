@@ -12,7 +12,7 @@ returns c = let a = c .before .args in (sym (due-few (a .marks) (a .lent) (c .if
 returns-2 : tie.Need-returns-2
 returns-2 c =
     let a = c .before .before .args in
-    let orders = c .orders-of .ensures in
+    let orders = c .shown-of .ensures in
     let enough = c .before .if1 .left in
     (orders .0 ∙ sym (due-all (a .marks) (a .lent) (omega arith)), omega arith)
 

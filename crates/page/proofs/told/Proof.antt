@@ -15,7 +15,7 @@ returns-2 : tie.Need-returns-2
 returns-2 c =
     let a = c .before .before .args in
     let enough = c .before .if1 .left in
-    ap (λ (n : ℕ). paged.Shown n (a .marks .day)) (c .orders-of .ensures .0) ∙ sym (told-all (a .marks) (a .lent) (omega arith))
+    ap (λ (n : ℕ). paged.Shown n (a .marks .day)) (c .shown-of .ensures .0) ∙ sym (told-all (a .marks) (a .lent) (omega arith))
 
 pub told-spec : {M : Type 1} → statement M
 told-spec = tie.close (tie.spec returns (λ c κs. search needs) returns-2)
