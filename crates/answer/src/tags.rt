@@ -36,7 +36,7 @@ pub const FILLING: u32 = 123;
 
 pub const TO: u32 = 36;
 
-// A Reject: the number and the type of what it rejects, the tag it names, the reason.
+// A Reject: the number and the type of what it rejects, the tag it names, the reason, and a text about it.
 pub const REJECTED: u32 = 45;
 
 pub const NAMED: u32 = 371;
@@ -44,6 +44,8 @@ pub const NAMED: u32 = 371;
 pub const REJECTED_TYPE: u32 = 372;
 
 pub const REASON: u32 = 373;
+
+pub const TEXT: u32 = 58;
 
 // ---- of an execution report
 

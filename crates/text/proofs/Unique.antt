@@ -13,6 +13,7 @@ use Rattle.text.proofs.Text.price as price
 use Rattle.text.proofs.Text.place as place
 use Rattle.text.proofs.put_at as put-at
 use Rattle.text.proofs.part_at as part-at
+use Rattle.text.proofs.decimal_at as decimal-at
 use Rattle.text.proofs.fixed_at as fixed-at
 use Rattle.text.proofs.field_at as field-at
 use Rattle.text.proofs.number_at as number-at
@@ -47,6 +48,9 @@ put-at-once M 𝓤 H A mem run κs a g = (_, λ r e. by 𝓤 apart)
 
 pub part-at-once : Once part-at.ended (λ M 𝓤. part-at.clauses 𝓤) (λ κs r e. r & e .0 .now)
 part-at-once M 𝓤 H A mem run κs a g = (_, λ r e. by 𝓤 apart)
+
+pub decimal-at-once : Once decimal-at.ended (λ M 𝓤. decimal-at.clauses 𝓤) (λ κs r e. r & e .0 .now)
+decimal-at-once M 𝓤 H A mem run κs a g = (_, λ r e. by 𝓤 apart)
 
 pub fixed-at-once : Once fixed-at.ended (λ M 𝓤. fixed-at.clauses 𝓤) (λ κs r e. r & e .0 .now)
 fixed-at-once M 𝓤 H A mem run κs a g = (_, λ r e. by 𝓤 apart)

@@ -208,7 +208,7 @@ fn digits_at(b: &mut [u8; ROOM], at: usize, n: u64) -> usize
 
 // A number more, "no leading zeros". A tag, like most numbers, has one to three digits: these are put one by one, so that
 // the compiler knows the digits of each tag that stands in the code.
-fn decimal_at(b: &mut [u8; ROOM], at: usize, n: u64) -> usize
+pub fn decimal_at(b: &mut [u8; ROOM], at: usize, n: u64) -> usize
     ensures { λ r. ⌜ textWith (now (b .exit)) r ≡ puts (textWith (now (b .entry)) at) (decimal n) ⌝ }
 {
     if n < 10 {

@@ -1,8 +1,8 @@
--- How long a message is at most, by the widths of what it is made of: IDs of at most 16 bytes, a time of 21, a word of 32 or 3, numbers of 4 bytes.
+-- How long a message is at most, by the widths of what it is made of: IDs of at most 16 bytes, a time of 21, a word of 32 or 3, numbers of 4 bytes, a place of 8.
 --     framed-length     what framing adds to a body
 --     others-short, header-short, body-short     the fields
---     message-short     a message has at most 199 bytes, so at most 256
---     reply-short     and a reply, of two such messages, at most 398, so it fits 512
+--     message-short     a message has at most 227 bytes, so at most 256
+--     reply-short     and a reply, of two such messages, at most 454, so it fits 512
 use mathlib.Core.Path.{_≡_, refl}
 use mathlib.Core.Bool.{Bool, true, false, not}
 use mathlib.Core.List.{List, [], _∷_}
@@ -22,7 +22,7 @@ use Rattle.wire.specs.declared.Say.{Say}
 use Rattle.wire.specs.declared.Say.the-variants.{Logon, Heartbeat, Echo, Test, Logout, Resend, Reject, GapFill}
 use Rattle.wire.specs.declared.Reply.{Reply}
 use Rattle.wire.specs.declared.Reply.the-variants.{Nothing, One, Two}
-use Rattle.wire.specs.Messages.{headed, framed, typeOf, isGapFill, sequenceOf, othersOf, headerOf, fieldsOf, messageOf, numberAfter, replyOf}
+use Rattle.wire.specs.Messages.{headed, framed, typeOf, isGapFill, sequenceOf, placeText, othersOf, headerOf, fieldsOf, messageOf, numberAfter, replyOf}
 use Rattle.wire.specs.Sending.{Small}
 
 -- ---- a field with a tag of at most 3 digits
@@ -40,6 +40,13 @@ part-short : (t n : ℕ) (v : List ℕ) → t < 1000 → length (fieldBytes (t i
 part-short t n v h =
     let l : length (take n v) ≤ n = simp length-take (omega arith) in
     let f = field-short t (take n v) h in
+    omega arith
+
+place-short : (n : ℕ) → n < 2 ^ 64 → length (fieldBytes (58 is placeText n)) ≤ 28
+place-short n g =
+    let d = decimal-length 19 n (omega arith) in
+    let f = field-short 58 (placeText n) (omega arith) in
+    let l : length (placeText n) ≡ 3 + length (decimal n) = length-append (bytesOf "at ") (decimal n) in
     omega arith
 
 said-short : (b : Bool) (f : Field) (n : ℕ) → length (fieldBytes f) ≤ n → length (layout (said b (f ∷ []))) ≤ n
@@ -62,7 +69,7 @@ module _ (o b : List ℕ) (short : length b < 1000) where
       simp length-append (omega arith)
 
 -- ---- the tags after the header
-pub others-short : (say : Say) (o : ℕ) (word : List ℕ) → Small say → o < 2 ^ 32 → length (layout (othersOf o word say)) ≤ 53
+pub others-short : (say : Say) (o : ℕ) (word : List ℕ) → Small say → o < 2 ^ 32 → length (layout (othersOf o word say)) ≤ 81
 others-short Logon o word s h =
     let a = number-short 98 0 (omega arith) (omega arith) in
     let b = number-short 108 30 (omega arith) (omega arith) in
@@ -84,6 +91,7 @@ others-short (Reject n f) o word s h =
     let b = said-short (not (eqb (f .tag) 0)) (371 is decimal (f .tag)) 15 (number-short 371 (f .tag) (omega arith) (s .1 .0)) in
     let d = part-short 372 3 word (omega arith) in
     let e = number-short 373 (f .reason) (omega arith) (s .1 .1) in
+    let p = said-short (eqb (f .reason) 6) (58 is placeText (f .at)) 28 (place-short (f .at) (s .1 .2)) in
     simp (layout-append, length-append) (omega arith)
 others-short (GapFill from to) o word s h =
     let a = field-short 123 (bytesOf "Y") (omega arith) in
@@ -127,13 +135,13 @@ module _ (setup : Setup) (p : length (ours setup) ≤ 16) (q : length (theirs se
       simp (layout-append, length-append) (omega arith)
 
   module _ (word : List ℕ) where
-    pub body-short : length (layout (fieldsOf setup o time word say)) ≤ 174
+    pub body-short : length (layout (fieldsOf setup o time word say)) ≤ 202
     body-short =
         let a = header-short in
         let b = others-short say o word s h in
         rw (layout-append, length-append) (omega arith)
 
-    pub message-short : length (messageOf setup o time word say) ≤ 199
+    pub message-short : length (messageOf setup o time word say) ≤ 227
     unfolding messageOf
     message-short =
         let b = body-short in
@@ -147,7 +155,7 @@ SmallReply (One a) = Small a
 SmallReply (Two a b) = Small a × Small b
 
 module _ (setup : Setup) (p : length (ours setup) ≤ 16) (q : length (theirs setup) ≤ 16) (o : ℕ) (h : o < 2 ^ 32) (time word : List ℕ) where
-  pub reply-short : (r : Reply) → SmallReply r → length (replyOf setup o time word r) ≤ 398
+  pub reply-short : (r : Reply) → SmallReply r → length (replyOf setup o time word r) ≤ 454
   unfolding replyOf
   reply-short Nothing s = omega arith
   reply-short (One a) s = omega (arith, message-short setup p q o h time a s word)

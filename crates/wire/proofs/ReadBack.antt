@@ -6,16 +6,18 @@ use mathlib.Core.Path.{_≡_, refl, ap, _∙_}
 use mathlib.Core.List.{List, [], _∷_, _++_, append-assoc}
 use mathlib.Core.Option.{some}
 use mathlib.Core.Bool.{Bool, true, false, not}
-use Prim.Native.Nat.{ℕ, _≤_}
+use Prim.Native.Nat.{ℕ, _+_, _≤_}
 use native.Mathlib.Nat.{le-of-eq}
 use native.Mathlib.Omega.{arith}
-use lib.ListN.{length, take, drop}
+use lib.ListN.{length, take, drop, length-append}
 use lib.Seq.{take-all, drop-append-seam}
 use lib.Dec.{eqb}
 use Rattle.octet.specs.Bytes.{bytesOf}
 use Rattle.octet.specs.Maybe.{first, unless}
 use Rattle.text.specs.Decimal.{decimal}
 use Rattle.text.specs.Fields.{Field, _is_, said, layout}
+use Rattle.text.proofs.Decimals.{decimal-unmarked}
+use Rattle.text.proofs.Layouts.{until-past}
 use Rattle.frame.specs.Finding.{opening, foundIn}
 use Rattle.frame.specs.declared.Found.the-variants.{Framed}
 use Rattle.field.specs.Pieces.{Pieces, piecesOf, firstOf, textAt}
@@ -27,7 +29,7 @@ use Rattle.answer.specs.declared.Setup.{Setup}
 use Rattle.wire.specs.declared.Say.{Say}
 use Rattle.wire.specs.declared.Say.the-variants.{Logon, Heartbeat, Echo, Test, Logout, Resend, Reject, GapFill}
 use Rattle.wire.specs.declared.Reply.the-variants.{Two}
-use Rattle.wire.specs.Messages.{typeOf, isGapFill, sequenceOf, othersOf, headerOf, fieldsOf, messageOf, numberAfter, replyOf}
+use Rattle.wire.specs.Messages.{typeOf, isGapFill, sequenceOf, placeText, othersOf, headerOf, fieldsOf, messageOf, numberAfter, replyOf}
 use Rattle.wire.specs.Reading.{Clear, ClearWord, Given, ReadsBack, HeaderRead}
 use Rattle.wire.proofs.Bounds.{body-short}
 use Rattle.wire.proofs.Framing.{framed-found, framed-body}
@@ -50,6 +52,11 @@ type-clear (Resend from) = (refl, (omega arith, refl))
 type-clear (Reject n f) = (refl, (omega arith, refl))
 type-clear (GapFill from to) = (refl, (omega arith, refl))
 
+place-clear : (n : ℕ) → Clear (placeText n)
+place-clear n =
+    let l : length (placeText n) ≡ 3 + length (decimal n) = length-append (bytesOf "at ") (decimal n) in
+    (omega arith, until-past 1 (bytesOf "at ") (decimal n) refl ∙ ap (λ (k : ℕ). 3 + k) (decimal-unmarked n) ∙ omega arith)
+
 others-whole : (say : Say) (o : ℕ) (word : List ℕ) → ClearWord word say → Each Whole (othersOf o word say)
 others-whole Logon o word c = also (number-whole 98 0 (omega arith) (omega arith)) (also (number-whole 108 30 (omega arith) (omega arith)) none)
 others-whole Heartbeat o word c = none
@@ -60,7 +67,8 @@ others-whole (Resend from) o word c = also (number-whole 7 from (omega arith) (o
 others-whole (Reject n f) o word c =
     also (number-whole 45 n (omega arith) (omega arith))
     (each-append (said-whole (not (eqb (f .tag) 0)) (371 is decimal (f .tag)) (number-whole 371 (f .tag) (omega arith) (omega arith)))
-    (also (whole 372 (take 3 word) (omega arith) (omega arith) c) (also (number-whole 373 (f .reason) (omega arith) (omega arith)) none)))
+    (also (whole 372 (take 3 word) (omega arith) (omega arith) c) (also (number-whole 373 (f .reason) (omega arith) (omega arith))
+    (said-whole (eqb (f .reason) 6) (58 is placeText (f .at)) (whole 58 (placeText (f .at)) (omega arith) (omega arith) (place-clear (f .at)))))))
 others-whole (GapFill from to) o word c = also (whole 123 (bytesOf "Y") (omega arith) (omega arith) yes) (also (number-whole 36 to (omega arith) (omega arith)) none)
 
 dated-whole : (again : Bool) (t : List ℕ) → Clear t

@@ -11,7 +11,7 @@ use Rattle.text.specs.Decimal.{decimal, checkSum}
 use Rattle.text.specs.Fields.{Field, _is_, fieldBytes, layout, said}
 use Rattle.frame.specs.Finding.{opening, trailerOf}
 use Rattle.answer.specs.Setup.{ours, theirs}
-use Rattle.answer.specs.Numbers.{counted}
+use Rattle.answer.specs.Numbers.{counted, wrongForm}
 use Rattle.answer.specs.declared.Setup.{Setup}
 use Rattle.answer.specs.declared.Fault.{Fault}
 use Rattle.wire.specs.declared.Say.{Say}
@@ -65,9 +65,16 @@ uses say = cond (isGapFill say) 0 1
 abbrev pub named : ℕ → List Field
 named tag = said (not (eqb tag 0)) ((371 is decimal tag) ∷ [])
 
--- "Reject carries 45, 371 where a tag is named, 372, 373"
+-- "Reject then carries 58 with `at ` and the place for reason 6; other reasons carry no 58"
+abbrev pub placeText : ℕ → List ℕ
+placeText at = bytesOf "at " ++ decimal at
+
+abbrev pub placed : Fault → List Field
+placed f = said (eqb (f .reason) wrongForm) ((58 is placeText (f .at)) ∷ [])
+
+-- "Reject carries 45, 371 where a tag is named, 372, 373", and last 58 where a form is the fault
 abbrev pub rejectOf : ℕ → Fault → List ℕ → List Field
-rejectOf n f word = (45 is decimal n) ∷ (named (f .tag) ++ (372 is take 3 word) ∷ (373 is decimal (f .reason)) ∷ [])
+rejectOf n f word = (45 is decimal n) ∷ (named (f .tag) ++ (372 is take 3 word) ∷ (373 is decimal (f .reason)) ∷ placed f)
 
 -- "then the other tags in the order this paper names them". The word is what a message repeats: 112 of a Test Request ("Heartbeat with it"), at most 32 bytes, or the type
 -- that is rejected (372), at most 3

@@ -17,10 +17,10 @@ longest = 256
 abbrev pub replyRoom : ℕ
 replyRoom = 512
 
--- ---- the numbers of a message are of 4 bytes
+-- ---- the numbers of a message are of 4 bytes, a place of 8
 
 abbrev pub SmallFault : Fault → Type 0
-SmallFault f = (f .tag < 2 ^ 32) × (f .reason < 2 ^ 32)
+SmallFault f = (f .tag < 2 ^ 32) × (f .reason < 2 ^ 32) × (f .at < 2 ^ 64)
 
 abbrev pub Small : Say → Type 0
 Small Logon = Unit {0}

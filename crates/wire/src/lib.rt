@@ -3,11 +3,13 @@ use answer::BAR;
 use answer::Fault;
 use answer::Id;
 use answer::Setup;
+use answer::reasons;
 use answer::tags;
 use frame::OPENING;
 use octet::copy_into;
 use text::ROOM;
 use text::byte_sum;
+use text::decimal_at;
 use text::field_at;
 use text::fixed_at;
 use text::letter_at;
@@ -21,7 +23,7 @@ ghost use lib.ListN.{length};
 ghost use Rattle.answer.specs.Setup.{idOf};
 ghost use Rattle.text.specs.Fields.{_is_, fieldBytes, layout};
 ghost use Rattle.text.specs.Writing.{textWith, puts};
-ghost use Rattle.wire.specs.Messages.{framed, typeOf, isGapFill, sequenceOf, uses, named, rejectOf, leadOf, datedOf, othersOf, messageOf, numberAfter, replyOf, usedBy};
+ghost use Rattle.wire.specs.Messages.{framed, typeOf, isGapFill, sequenceOf, uses, named, placed, rejectOf, leadOf, datedOf, othersOf, messageOf, numberAfter, replyOf, usedBy};
 ghost use Rattle.wire.specs.Sending.{SmallFault, Small, Sent, Replied};
 
 // What to write. Echo is the Heartbeat that answers a Test Request.
@@ -145,7 +147,22 @@ fn with_named(b: &mut [u8; ROOM], at: usize, tag: u32) -> usize
     at
 }
 
-// "Reject carries 45, 371 where a tag is named, 372, 373".
+// "Reject then carries 58 with `at ` and the place for reason 6".
+fn with_place(b: &mut [u8; ROOM], at: usize, fault: Fault) -> usize
+    ensures { λ r. ⌜ textWith (now (b .exit)) r ≡ puts (textWith (now (b .entry)) at) (layout (placed fault)) ⌝ }
+{
+    let reason = fault.reason;
+    let place = fault.at;
+    if reason != reasons::WRONG_FORM {
+        return at;
+    }
+    let equals = decimal_at(b, at, tags::TEXT as u64);
+    let digits = part_at(b, equals, b"=at ", 4);
+    let mark = decimal_at(b, digits, place as u64);
+    put_at(b, mark, BAR)
+}
+
+// "Reject carries 45, 371 where a tag is named, 372, 373", and last 58 where a form is the fault.
 fn with_fault(b: &mut [u8; ROOM], at: usize, n: u32, fault: Fault, word: &[u8]) -> usize
     ensures { λ r. ⌜ (textWith (now (b .exit)) r ≡ puts (textWith (now (b .entry)) at) (layout (rejectOf n fault (now (word .entry))))) × SmallFault fault ⌝ }
 {
@@ -154,7 +171,8 @@ fn with_fault(b: &mut [u8; ROOM], at: usize, n: u32, fault: Fault, word: &[u8]) 
     let named = number_at(b, at, tags::REJECTED, n);
     let typed = with_named(b, named, tag);
     let end = field_at(b, typed, tags::REJECTED_TYPE, word, MOST_TYPE);
-    number_at(b, end, tags::REASON, reason)
+    let place = number_at(b, end, tags::REASON, reason);
+    with_place(b, place, fault)
 }
 
 // The tags after the header, "in the order this paper names them".
