@@ -47,7 +47,7 @@ start c = c .before .before .before .before .before .before .before .before .bef
 abbrev Body : tie.After-with-others → List ℕ
 Body c = let a = start c .args in layout (fieldsOf (a .setup) (a .o) (a .time .now) (a .word .now) (a .say))
 
-short : (c : tie.After-with-others) → length (Body c) ≤ 202
+short : (c : tie.After-with-others) → length (Body c) ≤ 201
 short c =
     let s = start c in
     let a = s .args in
@@ -77,7 +77,7 @@ written c = c .before .before .before .before
 abbrev Message : tie.After-frame → List ℕ
 Message c = framed opening (Body (written c))
 
-brief : (c : tie.After-frame) → length (Message c) ≤ 227
+brief : (c : tie.After-frame) → length (Message c) ≤ 224
 brief c = let b = short (written c) in omega (arith, framed-length opening (Body (written c)) (omega arith))
 
 message : (c : tie.After-frame)
