@@ -1,3 +1,4 @@
 pub mod Value
 pub mod Plain
+pub mod Place
 pub mod Readers
