@@ -328,6 +328,14 @@ module _ (low high : ℕ) where
       (λ e. (let h : runIn low high s ≡ length s = eqb-true (runIn low high s) (length s) e in rw (h, take-length) at (run-in s)))
       (λ e. eq-eqb (runIn low high s) (length s) (run-all s e))
 
+  -- the run reaches as far as bytes at the front pass
+  pub run-reach : (n : ℕ) (s : List ℕ) → n ≤ length s → allIn low high (take n s) ≡ true → n ≤ runIn low high s
+  run-reach zero s h e = omega arith
+  run-reach (suc n) [] h e = absurd (omega arith)
+  run-reach (suc n) (b ∷ s) h e =
+      let p = and-both (between low high b) (allIn low high (take n s)) e in
+      omega (arith, cond-true (between low high b) (suc (runIn low high s)) 0 (p .0), run-reach n s (omega arith) (p .1))
+
   -- a walk: at place i
   module _ (s : List ℕ) (i : ℕ) where
     pub run-go : i < length s → between low high (getD s i 0) ≡ true → runIn low high (drop i s) ≡ 1 + runIn low high (drop (i + 1) s)

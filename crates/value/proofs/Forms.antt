@@ -31,6 +31,10 @@ module _ (v : List ℕ) (good : ℕ) (complete : Bool) where
       (λ e f. (let p = and-both (eqb good (length v)) complete e in (eqb-true good (length v) (p .0), p .1)))
       (λ e f. absurd (let z : _≡_ {A = ℕ} 0 1 = cc in omega arith))
 
+  -- and it is bad where its good beginning ends
+  pub form-at : (p : ℕ) → wellFormed v good complete ≡ some p → good ≡ p
+  form-at p = of-cond (λ (o : Option ℕ). o ≡ some p → good ≡ p) (eqb good (length v) && complete) (λ e f. cc) (λ e f. cc)
+
 -- ---- what each answer of a check means
 pub checked-good : (form : Option ℕ) (fits : Bool) → checked form fits ≡ Good → (form ≡ none) × (fits ≡ true)
 checked-good (some at) fits e = absurd (let z : _≡_ {A = ℕ} 0 1 = cc in omega arith)

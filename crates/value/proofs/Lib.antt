@@ -6,4 +6,5 @@ pub mod Prices
 pub mod Times
 pub mod Texts
 pub mod Back
+pub mod Place
 pub mod Unique
