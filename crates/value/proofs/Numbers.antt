@@ -21,6 +21,7 @@ use Rattle.text.specs.Decimal.{digits, digitRun, digitsTaken, digitsAtFront}
 use Rattle.text.specs.declared.Digits.{Digits}
 use Rattle.text.proofs.ReadLaws.{digits-below, front-in}
 use Rattle.value.specs.Value.{wellFormed, badNumber, numberOr}
+use Rattle.value.specs.Place.{Numeral, NumberForm}
 use Rattle.value.specs.Readers.{numbered, numberRead}
 use Rattle.value.specs.declared.Number.{Number}
 use Rattle.value.specs.declared.Number.the-variants as number
@@ -34,6 +35,12 @@ pub front-below : (k m : ℕ) (s : List ℕ) → k ≤ digitRun s → k ≤ m �
 front-below k m s h l =
     let e : length (take k s) ≡ k = length-take-le k s (omega (arith, run-most 48 57 s)) in
     below-pow 10 m (lit< tt) (digits-below (take k s) (front-in k s h)) (omega arith)
+
+-- and they are digits only, so many
+pub front-numeral : (low high k : ℕ) (s : List ℕ) → k ≤ digitRun s → low ≤ k → k ≤ high → Numeral low high (take k s)
+front-numeral low high k s h l m =
+    let e : length (take k s) ≡ k = length-take-le k s (omega (arith, run-most 48 57 s)) in
+    record { only = front-in k s h; least = omega arith; most = omega arith }
 
 -- ---- the digits d at the front of v
 module _ (v : List ℕ) (d : Digits) (e : d ≡ digitsAtFront 9 v) where
@@ -76,12 +83,7 @@ module _ (v : List ℕ) (d : Digits) (e : d ≡ digitsAtFront 9 v) where
     number-above low high a = sym (by-range low high ∙ cond-false _ _ _ (is-above low high (d .value) a))
 
 -- ---- which values are numbers
-pub record Numeral (v : List ℕ) : Type 0 where
-  pub only : allIn 48 57 v ≡ true
-  pub least : 1 ≤ length v
-  pub most : length v ≤ 9
-
-pub numeral : (v : List ℕ) → badNumber v ≡ none → Numeral v
+pub numeral : (v : List ℕ) → badNumber v ≡ none → NumberForm v
 unfolding badNumber
 numeral v e =
     let p = form-good v (min 9 (digitRun v)) (leb 1 (length v)) e in
@@ -92,13 +94,13 @@ numeral v e =
       most = omega (arith, p .0);
     }
 
-pub numeral-formed : (v : List ℕ) → Numeral v → badNumber v ≡ none
+pub numeral-formed : (v : List ℕ) → NumberForm v → badNumber v ≡ none
 unfolding badNumber
 numeral-formed v n =
     let h : min 9 (digitRun v) ≡ length v = omega (arith, run-all 48 57 v (n .only), n .most) in
     form-well v (min 9 (digitRun v)) (leb 1 (length v)) h (le-leb 1 (length v) (n .least))
 
-pub numeral-small : (v : List ℕ) → Numeral v → digits v ≤ 999999999
+pub numeral-small : (v : List ℕ) → NumberForm v → digits v ≤ 999999999
 numeral-small v n =
     let h : digits v < 10 ^ 9 = below-pow 10 9 (lit< tt) (digits-below v (n .only)) (n .most) in
     omega arith
@@ -106,7 +108,7 @@ numeral-small v n =
 -- ---- what each answer means
 pub record NumberGood (low high : ℕ) (v : List ℕ) (n : ℕ) : Type 0 where
   pub formed : badNumber v ≡ none
-  pub numeral : Numeral v
+  pub numeral : NumberForm v
   pub number : digits v ≡ n
   pub least : low ≤ n
   pub most : n ≤ high

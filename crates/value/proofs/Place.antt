@@ -10,11 +10,17 @@ use mathlib.Core.Bool.{Bool, true, false, cond}
 use Prim.Native.Nat.{ℕ, _+_, _≤_, _<_, min}
 use native.Mathlib.Omega.{arith}
 use lib.ListN.{length, take, drop, getD, length-append}
-use lib.Seq.{take-length}
-use Rattle.octet.proofs.Cases.{le-or-lt}
-use Rattle.value.specs.Value.{wellFormed}
-use Rattle.value.specs.Place.{Begins, FailsAt, Places}
+use lib.Seq.{take-length, length-take-le}
+use lib.Dec.{leb}
+use Rattle.octet.specs.Bytes.{allIn, runIn}
+use Rattle.octet.proofs.Cases.{le-or-lt, and-left, and-make}
+use Rattle.octet.proofs.Lists.{allIn-append, run-most, run-in, run-reach}
+use Rattle.text.specs.Decimal.{digitRun}
+use Rattle.value.specs.Value.{wellFormed, badNumber, badGraph}
+use Rattle.value.specs.Place.{Begins, FailsAt, Places, Numeral, NumberForm, GraphForm}
 use Rattle.value.proofs.Forms.{form-at}
+use Rattle.value.proofs.Numbers.{front-numeral, numeral, numeral-formed}
+use Rattle.value.proofs.Texts.{graph-only, graph-formed}
 
 -- ---- over any form
 module _ (Good : List ℕ → Type 0) where
@@ -62,3 +68,42 @@ module _ (Good : List ℕ → Type 0) where
       back : (v : List ℕ) (p : ℕ) → FailsAt Good v p → (o : Option ℕ) → bad v ≡ o → bad v ≡ some p
       back v p x none e = absurd (x .bad (formed v .0 e))
       back v p x (some q) e = e ∙ ap some (one-place v q p (at v q e) x)
+
+-- ---- bytes of low to high
+module _ (low high : ℕ) (v : List ℕ) (n : ℕ) (h : n ≤ length v) (rest : List ℕ) where
+  -- as far as a beginning goes, the run goes
+  front-reach : allIn low high (take n v ++ rest) ≡ true → n ≤ runIn low high v
+  front-reach e = run-reach low high n v h (and-left (allIn low high (take n v)) (allIn low high rest) (sym (allIn-append low high (take n v) rest) ∙ e))
+
+pub graph-places : Places GraphForm badGraph
+unfolding badGraph
+graph-places =
+    reader-places GraphForm badGraph (runIn 33 126) (λ v. true) (λ v. refl)
+    (λ v. (graph-only v, graph-formed v))
+    (run-most 33 126)
+    (λ v. ([], ap (allIn 33 126) (append-nil (take (runIn 33 126 v) v)) ∙ run-in 33 126 v))
+    (λ v n h b. front-reach 33 126 v n h (b .0) (b .1))
+
+-- ---- digits
+
+-- no digits go on with one, others with nothing
+digits-begin : (high : ℕ) (b : List ℕ) → 1 ≤ high → Numeral 0 high b → Begins (Numeral 1 high) b
+digits-begin high [] l d = (48 ∷ [], record { only = refl; least = omega arith; most = l })
+digits-begin high (x ∷ b) l d =
+    ([], subst (Numeral 1 high) (sym (append-nil (x ∷ b))) (record { only = d .only; least = omega arith; most = d .most }))
+
+-- a beginning of them is of the digits at the front
+digits-reach : (low high : ℕ) (v : List ℕ) (n : ℕ) → n ≤ length v → Begins (Numeral low high) (take n v) → n ≤ min high (digitRun v)
+digits-reach low high v n h b =
+    let d = b .1 in
+    let r = front-reach 48 57 v n h (b .0) (d .only) in
+    omega (arith, d .most, length-append (take n v) (b .0), length-take-le n v h)
+
+pub number-places : Places NumberForm badNumber
+unfolding badNumber
+number-places =
+    reader-places NumberForm badNumber (λ v. min 9 (digitRun v)) (λ v. leb 1 (length v)) (λ v. refl)
+    (λ v. (numeral v, numeral-formed v))
+    (λ v. omega (arith, run-most 48 57 v))
+    (λ v. digits-begin 9 _ (omega arith) (front-numeral 0 9 (min 9 (digitRun v)) v (omega arith) (omega arith) (omega arith)))
+    (λ v n h b. digits-reach 1 9 v n h b)
