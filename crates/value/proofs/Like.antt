@@ -3,19 +3,23 @@
 --     like-digits     where digits stand in the pattern, digits stand in such a value
 --     like-all     where the pattern has digits and marks alone, so has such a value
 --     like-append     such a value, and what follows it
+--     like-most, like-rest, like-reach     how far a value is like a pattern, so far it begins one that is like all of it, and no further
+--     like-run, like-size, like-whole     a value that is like all of a pattern
 use mathlib.Core.Path.{_≡_, refl, sym, ap, ap₂, _∙_, subst}
-use mathlib.Core.List.{List, [], _∷_, _++_}
+use mathlib.Core.List.{List, [], _∷_, _++_, append-nil}
 use mathlib.Core.Bool.{Bool, true, false, cond}
 use Prim.Native.Nat.{ℕ, zero, suc, _+_, _≤_, _<_}
 use native.Mathlib.Omega.{arith}
 use lib.ListN.{length, getD, take, drop}
+use lib.Seq.{take-length}
 use native.Mathlib.Nat.{zero-add}
 use lib.Dec.{eqb}
-use borrow.Author.Tests.{eqb-true}
+use borrow.Author.Tests.{eqb-true, eq-eqb}
 use Rattle.octet.specs.Bytes.{between, allIn, part}
-use Rattle.octet.proofs.Cases.{of-cond, cond-true, cond-false, and-both, and-make}
+use Rattle.octet.proofs.Cases.{true-not-false, of-cond, cond-true, cond-false, and-both, and-make}
 use Rattle.octet.proofs.Lists.{drop-step, drop-done, between-low, between-high, is-between}
 use Rattle.value.specs.Value.{likeByte, likeRun}
+use Rattle.value.specs.Place.{likeAll}
 
 like-none : (p : List ℕ) → likeRun p [] ≡ 0
 like-none [] = refl
@@ -83,3 +87,52 @@ like-append [] (b ∷ v) w h = absurd (omega arith)
 like-append (t ∷ p) (b ∷ v) w h =
     let q = like-head t b p v h in
     cond-true (likeByte t b) (suc (likeRun p (v ++ w))) 0 (q .0) ∙ omega (arith, like-append p v w (q .1))
+
+-- ---- a value that is like all of a pattern
+like-same : (t : ℕ) → likeByte t t ≡ true
+like-same t = of-cond (λ (x : Bool). x ≡ true) (between 48 57 t) (λ e. e) (λ e. eq-eqb t t refl)
+
+like-self : (p : List ℕ) → likeAll p p ≡ true
+like-self [] = refl
+like-self (t ∷ p) = and-make (likeByte t t) (likeAll p p) (like-same t) (like-self p)
+
+pub like-most : (p v : List ℕ) → likeRun p v ≤ length v
+like-most [] v = omega arith
+like-most (t ∷ p) [] = omega arith
+like-most (t ∷ p) (b ∷ v) = of-cond (λ (n : ℕ). n ≤ suc (length v)) (likeByte t b) (λ e. omega (arith, like-most p v)) (λ e. omega arith)
+
+-- what is like a pattern goes on with the rest of the pattern itself
+pub like-rest : (p v : List ℕ) → likeAll p (take (likeRun p v) v ++ drop (likeRun p v) p) ≡ true
+like-rest [] v = refl
+like-rest (t ∷ p) [] = like-self (t ∷ p)
+like-rest (t ∷ p) (b ∷ v) =
+    of-cond (λ (n : ℕ). likeAll (t ∷ p) (take n (b ∷ v) ++ drop n (t ∷ p)) ≡ true) (likeByte t b)
+    (λ e. and-make (likeByte t b) (likeAll p (take (likeRun p v) v ++ drop (likeRun p v) p)) e (like-rest p v)) (λ e. like-self (t ∷ p))
+
+-- what begins one that is like all of a pattern is like it, and like a longer one
+pub like-reach : (n : ℕ) (p q v rest : List ℕ) → n ≤ length v → likeAll p (take n v ++ rest) ≡ true → n ≤ likeRun (p ++ q) v
+like-reach zero p q v rest h e = omega arith
+like-reach (suc n) p q [] rest h e = absurd (omega arith)
+like-reach (suc n) [] q (b ∷ v) rest h e = true-not-false (sym e)
+like-reach (suc n) (t ∷ p) q (b ∷ v) rest h e =
+    let d = and-both (likeByte t b) (likeAll p (take n v ++ rest)) e in
+    omega (arith, cond-true (likeByte t b) (suc (likeRun (p ++ q) v)) 0 (d .0), like-reach n p q v rest (omega arith) (d .1))
+
+pub like-run : (p q v : List ℕ) → likeAll p v ≡ true → likeRun (p ++ q) v ≡ length v
+like-run p q v e =
+    let f : take (length v) v ++ [] ≡ v = append-nil (take (length v) v) ∙ take-length v in
+    omega (arith, like-most (p ++ q) v, like-reach (length v) p q v [] (omega arith) (ap (likeAll p) f ∙ e))
+
+pub like-size : (p v : List ℕ) → likeAll p v ≡ true → length v ≡ length p
+like-size [] [] e = refl
+like-size [] (b ∷ v) e = true-not-false (sym e)
+like-size (t ∷ p) [] e = true-not-false (sym e)
+like-size (t ∷ p) (b ∷ v) e = ap suc (like-size p v (and-both (likeByte t b) (likeAll p v) e .1))
+
+pub like-whole : (p q v : List ℕ) → likeRun (p ++ q) v ≡ length v → length v ≡ length p → likeAll p v ≡ true
+like-whole [] q [] h l = refl
+like-whole [] q (b ∷ v) h l = absurd (omega arith)
+like-whole (t ∷ p) q [] h l = absurd (omega arith)
+like-whole (t ∷ p) q (b ∷ v) h l =
+    let d = like-head t b (p ++ q) v h in
+    and-make (likeByte t b) (likeAll p v) (d .0) (like-whole p q v (d .1) (omega arith))

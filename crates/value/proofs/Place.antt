@@ -12,14 +12,16 @@ use native.Mathlib.Omega.{arith}
 use lib.ListN.{length, take, drop, getD, length-append}
 use lib.Seq.{take-length, length-take-le}
 use lib.Dec.{leb}
-use Rattle.octet.specs.Bytes.{allIn, runIn}
+use Rattle.octet.specs.Bytes.{bytesOf, allIn, runIn}
 use Rattle.octet.proofs.Cases.{le-or-lt, and-left, and-make}
 use Rattle.octet.proofs.Lists.{allIn-append, run-most, run-in, run-reach}
 use Rattle.text.specs.Decimal.{digitRun}
-use Rattle.value.specs.Value.{wellFormed, badNumber, badGraph}
-use Rattle.value.specs.Place.{Begins, FailsAt, Places, Numeral, NumberForm, GraphForm}
-use Rattle.value.proofs.Forms.{form-at}
+use Rattle.value.specs.Value.{wellFormed, badNumber, badGraph, likeRun, timePattern, timeLong, badTime}
+use Rattle.value.specs.Place.{Begins, FailsAt, Places, Numeral, NumberForm, likeAll, TimeForm, GraphForm}
+use Rattle.value.proofs.Forms.{form-well, form-good, form-at}
+use Rattle.value.proofs.Like.{like-most, like-rest, like-reach, like-run, like-size, like-whole}
 use Rattle.value.proofs.Numbers.{front-numeral, numeral, numeral-formed}
+use Rattle.value.proofs.Times.{time-lengths}
 use Rattle.value.proofs.Texts.{graph-only, graph-formed}
 
 -- ---- over any form
@@ -107,3 +109,41 @@ number-places =
     (λ v. omega (arith, run-most 48 57 v))
     (λ v. digits-begin 9 _ (omega arith) (front-numeral 0 9 (min 9 (digitRun v)) v (omega arith) (omega arith) (omega arith)))
     (λ v n h b. digits-reach 1 9 v n h b)
+
+-- ---- times
+
+-- like a pattern with which that of a time with .mmm begins
+module _ (p q v : List ℕ) (e : p ++ q ≡ timePattern) where
+  alike-formed : timeLong (length p) ≡ true → likeAll p v ≡ true → badTime v ≡ none
+  unfolding badTime
+  alike-formed t h =
+      form-well v (likeRun timePattern v) (timeLong (length v)) (subst (λ (x : List ℕ). likeRun x v ≡ length v) e (like-run p q v h)) (ap timeLong (like-size p v h) ∙ t)
+
+  alike-reach : (n : ℕ) (rest : List ℕ) → n ≤ length v → likeAll p (take n v ++ rest) ≡ true → n ≤ likeRun timePattern v
+  alike-reach n rest l h = subst (λ (x : List ℕ). n ≤ likeRun x v) e (like-reach n p q v rest l h)
+
+  alike-whole : badTime v ≡ none → length v ≡ length p → likeAll p v ≡ true
+  unfolding badTime
+  alike-whole f l =
+      like-whole p q v (ap (λ (x : List ℕ). likeRun x v) e ∙ form-good v (likeRun timePattern v) (timeLong (length v)) f .0) l
+
+abbrev short : List ℕ
+short = bytesOf "00000000-00:00:00"
+
+abbrev thousandths : List ℕ
+thousandths = bytesOf ".000"
+
+time-alike : (v : List ℕ) → (badTime v ≡ none) ↔ TimeForm v
+time-alike v = (
+  λ e. ⊎-elim (λ l. inl (alike-whole short thousandths v refl e l)) (λ l. inr (alike-whole timePattern [] v refl e l)) (time-lengths v e),
+  ⊎-elim (alike-formed short thousandths v refl refl) (alike-formed timePattern [] v refl refl),
+)
+
+pub time-places : Places TimeForm badTime
+unfolding badTime
+time-places =
+    reader-places TimeForm badTime (likeRun timePattern) (λ v. timeLong (length v)) (λ v. refl)
+    time-alike
+    (like-most timePattern)
+    (λ v. (drop (likeRun timePattern v) timePattern, inr (like-rest timePattern v)))
+    (λ v n h b. ⊎-elim (alike-reach short thousandths v refl n (b .0) h) (alike-reach timePattern [] v refl n (b .0) h) (b .1))
