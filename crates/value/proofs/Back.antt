@@ -4,10 +4,10 @@ use mathlib.Core.List.{List}
 use mathlib.Core.Option.{none}
 use Prim.Native.Nat.{ℕ, _+_, _-_, _*_, _/_, _^_, _≤_, _<_}
 use native.Mathlib.Omega.{arith}
-use lib.ListN.{length}
 use Rattle.text.specs.Decimal.{digits, decimal, fixed, priceText}
 use Rattle.text.proofs.Decimals.{decimal-some, decimal-length, decimal-digits, decimal-back, fixed-length, fixed-digits, fixed-back, price-text, price-back as parts-back}
 use Rattle.value.specs.Value.{badNumber, numberOr, badPrice, priceIn}
+use Rattle.value.specs.Place.{Numeral}
 use Rattle.value.specs.Readers.{numberRead, priceRead}
 use Rattle.value.specs.declared.Number.the-variants as number
 use Rattle.value.specs.declared.Price.the-variants as price
@@ -37,18 +37,19 @@ fixed-number-back low high width n l m h a b =
 
 -- ---- prices
 module _ (p : ℕ) (h : p < 10 ^ 11) where
-  whole-most : length (decimal (p / 10000)) ≤ 7
-  whole-most = decimal-length 6 (p / 10000) (omega arith)
+  before : Numeral 1 7 (decimal (p / 10000))
+  before = record { only = decimal-digits (p / 10000); least = decimal-some (p / 10000); most = decimal-length 6 (p / 10000) (omega arith) }
+
+  after : Numeral 1 4 (fixed 4 p)
+  after = record { only = fixed-digits 4 p; least = omega (arith, fixed-length 4 p); most = omega (arith, fixed-length 4 p) }
 
   pub price-text-formed : badPrice (priceText p) ≡ none
-  price-text-formed =
-      ap badPrice (price-text p)
-      ∙ price-formed (decimal (p / 10000)) (fixed 4 p) (decimal-digits (p / 10000)) (fixed-digits 4 p) (decimal-some (p / 10000)) whole-most (omega (arith, fixed-length 4 p)) (omega (arith, fixed-length 4 p))
+  price-text-formed = ap badPrice (price-text p) ∙ price-formed (decimal (p / 10000)) (fixed 4 p) before after
 
   pub price-in-back : priceIn (priceText p) ≡ p
   price-in-back =
       ap priceIn (price-text p)
-      ∙ price-parts (decimal (p / 10000)) (fixed 4 p) (decimal-digits (p / 10000)) (fixed-digits 4 p) (decimal-some (p / 10000)) whole-most (omega (arith, fixed-length 4 p)) (omega (arith, fixed-length 4 p))
+      ∙ price-parts (decimal (p / 10000)) (fixed 4 p) before after
       ∙ ap (λ (n : ℕ). digits (decimal (p / 10000)) * 10000 + digits (fixed 4 p) * 10 ^ (4 - n)) (fixed-length 4 p)
       ∙ omega (arith, parts-back p)
 

@@ -7,20 +7,23 @@ use mathlib.Core.Logic.{_⊎_, _↔_, inl, inr, ⊎-elim}
 use mathlib.Core.List.{List, [], _∷_, _++_, append-nil, append-assoc}
 use mathlib.Core.Option.{Option, none, some}
 use mathlib.Core.Bool.{Bool, true, false, cond}
-use Prim.Native.Nat.{ℕ, _+_, _≤_, _<_, min}
+use Prim.Native.Nat.{ℕ, suc, _+_, _-_, _≤_, _<_, min}
 use native.Mathlib.Omega.{arith}
-use lib.ListN.{length, take, drop, getD, length-append}
-use lib.Seq.{take-length, length-take-le}
+use lib.ListN.{length, take, drop, length-append, length-drop, take-append-drop}
+use lib.Seq.{take-length, length-take-le, take-at, take-append-le, take-append-add}
 use lib.Dec.{leb}
-use Rattle.octet.specs.Bytes.{bytesOf, allIn, runIn}
-use Rattle.octet.proofs.Cases.{le-or-lt, and-left, and-make}
-use Rattle.octet.proofs.Lists.{allIn-append, run-most, run-in, run-reach}
+use Rattle.octet.specs.Bytes.{bytesOf, allIn, runIn, part}
+use Rattle.octet.proofs.Cases.{le-or-lt, of-cond, and-left}
+use Rattle.octet.proofs.Lists.{allIn-append, allIn-take, run-most, run-in, run-reach}
 use Rattle.text.specs.Decimal.{digitRun}
-use Rattle.value.specs.Value.{wellFormed, badNumber, badGraph, likeRun, timePattern, timeLong, badTime}
-use Rattle.value.specs.Place.{Begins, FailsAt, Places, Numeral, NumberForm, likeAll, TimeForm, GraphForm}
+use Rattle.text.proofs.ReadLaws.{run-append}
+use Rattle.value.specs.Value.{wellFormed, badNumber, badGraph, wholes, pointed, decimals, badPrice, likeRun, timePattern, timeLong, badTime}
+use Rattle.value.specs.Place.{Begins, FailsAt, Places, Numeral, NumberForm, PriceForm, likeAll, TimeForm, GraphForm}
+use Rattle.value.specs.Readers.{priceFront}
 use Rattle.value.proofs.Forms.{form-well, form-good, form-at}
 use Rattle.value.proofs.Like.{like-most, like-rest, like-reach, like-run, like-size, like-whole}
 use Rattle.value.proofs.Numbers.{front-numeral, numeral, numeral-formed}
+use Rattle.value.proofs.Prices.{point-inside, by-front, whole-part, after-point, point-part, point-cut, before-point, decimals-numeral, price-form, price-well}
 use Rattle.value.proofs.Times.{time-lengths}
 use Rattle.value.proofs.Texts.{graph-only, graph-formed}
 
@@ -39,9 +42,9 @@ module _ (Good : List ℕ → Type 0) where
   missing v p x = (
     λ (e : p ≡ length v). subst (Begins Good) (ap (λ (n : ℕ). take n v) e ∙ take-length v) (x .begins),
     λ (b : Begins Good v). ⊎-elim
-      (λ (h : length v ≤ p). (let i = x .inside in omega arith))
-      (λ (h : p < length v). absurd (x .longest (length v) h (omega arith) (subst (Begins Good) (sym (take-length v)) b)))
-      (le-or-lt (length v) p),
+        (λ (h : length v ≤ p). (let i = x .inside in omega arith))
+        (λ (h : p < length v). absurd (x .longest (length v) h (omega arith) (subst (Begins Good) (sym (take-length v)) b)))
+        (le-or-lt (length v) p),
   )
 
   -- a reader says it that finds the longest good beginning
@@ -109,6 +112,81 @@ number-places =
     (λ v. omega (arith, run-most 48 57 v))
     (λ v. digits-begin 9 _ (omega arith) (front-numeral 0 9 (min 9 (digitRun v)) v (omega arith) (omega arith) (omega arith)))
     (λ v n h b. digits-reach 1 9 v n h b)
+
+-- ---- prices
+
+-- how far a value is like a price
+abbrev like : List ℕ → ℕ
+like v = priceFront v .good
+
+price-inside : (v : List ℕ) → like v ≤ length v
+unfolding priceFront
+price-inside v =
+    let rest = drop (wholes v + 1) v in
+    of-cond (λ (n : ℕ). n ≤ length v) (pointed v)
+    (λ t. omega (arith, point-inside (wholes v) v t, run-most 48 57 rest, length-drop (wholes v + 1) v)) (λ t. omega (arith, run-most 48 57 v))
+
+-- what has a point goes on with decimals
+point-begin : (x y : List ℕ) → Numeral 1 7 x → Numeral 0 4 y → Begins PriceForm (x ++ 46 ∷ y)
+point-begin x y m n =
+    let b = digits-begin 4 y (omega arith) n in
+    (b .0, inr (record { wholes = x; decimals = y ++ b .0; parts = append-assoc x (46 ∷ y) (b .0); before = m; after = b .1 }))
+
+price-begin : (v : List ℕ) → Begins PriceForm (take (like v) v)
+unfolding priceFront
+price-begin v =
+    of-cond (λ (n : ℕ). Begins PriceForm (take n v)) (pointed v)
+    (λ t. subst (Begins PriceForm) (sym (point-cut (wholes v) (decimals v) v t))
+    (point-begin (take (wholes v) v) (part (wholes v + 1) (decimals v) v) (before-point v t) (decimals-numeral v 0 (omega arith))))
+    (λ t. let b = digits-begin 7 (take (wholes v) v) (omega arith) (front-numeral 0 7 (wholes v) v (omega arith) (omega arith) (omega arith)) in
+    (b .0, inl (b .1)))
+
+-- as far as digits go, and as far as digits go after a point
+plain-reach : (v : List ℕ) (n : ℕ) → n ≤ wholes v → n ≤ like v
+unfolding priceFront
+plain-reach v n h = of-cond (λ (k : ℕ). n ≤ k) (pointed v) (λ t. omega arith) (λ t. h)
+
+point-reach : (x y : List ℕ) (k : ℕ) → Numeral 1 7 x → k ≤ 4 → k ≤ digitRun y → length x + suc k ≤ like (x ++ 46 ∷ y)
+unfolding priceFront
+point-reach x y k m l h =
+    let v = x ++ 46 ∷ y in
+    let d : decimals v ≡ min 4 (digitRun y) = ap (λ (s : List ℕ). min 4 (digitRun s)) (after-point x y m) in
+    rw (point-part x y m) (omega (arith, whole-part x y m))
+
+-- the first n bytes are those of w, a point and d
+module _ (v w d rest : List ℕ) (n : ℕ) (h : n ≤ length v) (e : take n v ++ rest ≡ w ++ 46 ∷ d) (m : Numeral 1 7 w) (o : Numeral 1 4 d) where
+  first-bytes : take n v ≡ take n (w ++ 46 ∷ d)
+  first-bytes = sym (take-at (take n v) rest n (length-take-le n v h)) ∙ ap (take n) e
+
+  before-reach : n ≤ length w → n ≤ like v
+  before-reach l =
+      let f : take n v ++ drop n w ≡ w = ap (λ (s : List ℕ). s ++ drop n w) (first-bytes ∙ take-append-le n w (46 ∷ d) l) ∙ take-append-drop n w in
+      plain-reach v n (digits-reach 1 7 v n h (drop n w, subst (Numeral 1 7) (sym f) m))
+
+  after-reach : (k : ℕ) → n ≡ length w + suc k → n ≤ like v
+  after-reach k q =
+      let y = take k d ++ drop n v in
+      let f : take n v ≡ w ++ 46 ∷ take k d = first-bytes ∙ ap (λ (j : ℕ). take j (w ++ 46 ∷ d)) q ∙ take-append-add w (46 ∷ d) (suc k) in
+      let c : v ≡ w ++ 46 ∷ y = sym (take-append-drop n v) ∙ ap (λ (s : List ℕ). s ++ drop n v) f ∙ append-assoc w (46 ∷ take k d) (drop n v) in
+      let l : k ≤ length d =
+      omega (arith, q, sym (length-append (take n v) rest) ∙ ap length e ∙ length-append w (46 ∷ d), length-take-le n v h) in
+      let r : k ≤ digitRun y = omega (arith, run-append (take k d) (drop n v) (allIn-take 48 57 k d (o .only)), length-take-le k d l) in
+      subst (λ (s : List ℕ). n ≤ like s) (sym c) (subst (λ (j : ℕ). j ≤ like (w ++ 46 ∷ y)) (sym q) (point-reach w y k m (omega (arith, o .most)) r))
+
+price-reach : (v : List ℕ) (n : ℕ) → n ≤ length v → Begins PriceForm (take n v) → n ≤ like v
+price-reach v n h b =
+    ⊎-elim
+    (λ d. plain-reach v n (digits-reach 1 7 v n h (b .0, d)))
+    (λ p. ⊎-elim
+    (before-reach v (p .wholes) (p .decimals) (b .0) n h (p .parts) (p .before) (p .after))
+    (λ l. after-reach v (p .wholes) (p .decimals) (b .0) n h (p .parts) (p .before) (p .after) (n - suc (length (p .wholes))) (omega arith))
+    (le-or-lt n (length (p .wholes))))
+    (b .1)
+
+pub price-places : Places PriceForm badPrice
+price-places =
+    reader-places PriceForm badPrice like (λ v. priceFront v .complete) (λ v. by-front v (priceFront v) refl)
+    (λ v. (price-form v, price-well v)) price-inside price-begin price-reach
 
 -- ---- times
 

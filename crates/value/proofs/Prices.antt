@@ -1,9 +1,11 @@
 -- Prices: what reading makes of the digits before and after a point, what it means that a price was read, and which values are prices.
 --     price-good, price-bad     what each answer means
 --     price-small     seven digits and four decimals at most
---     price-parts     digits, a point and digits are a price, and which
+--     whole-part, after-point, point-part     digits, a point, and what follows it
+--     price-formed, price-parts     digits, a point and digits are a price, and which
+--     price-form, price-well     a value is well formed as a price exactly where it is of the form
 use mathlib.Core.Path.{_≡_, refl, sym, ap, _∙_, subst}
-use mathlib.Core.Logic.{⊎-elim}
+use mathlib.Core.Logic.{inl, inr, ⊎-elim}
 use mathlib.Core.List.{List, _∷_, _++_}
 use mathlib.Core.Option.{Option, none, some}
 use mathlib.Core.Bool.{Bool, true, false, cond}
@@ -11,21 +13,22 @@ use Prim.Native.Nat.{ℕ, suc, _+_, _-_, _*_, _^_, _≤_, _<_, min}
 use native.Mathlib.Nat.{add-zero, one-le-pow, mul-lt-mul-of-pos-right}
 use native.Mathlib.Omega.{arith}
 use lib.ListN.{length, take, drop, getD, length-append, List·getD-eq-default}
-use lib.Seq.{take-append-seam, drop-append-add, getD-append-seam, take-length}
+use lib.Seq.{take-append-seam, drop-append-add, getD-append-seam, take-length, take-all, take-add}
 use lib.Dec.{lit<, leb, eqb}
 use lib.Pow.{pow-add}
-use borrow.Author.Tests.{le-leb, eq-eqb, eqb-true}
-use Rattle.octet.specs.Bytes.{allIn}
-use Rattle.octet.proofs.Cases.{of-cond, le-or-lt, and-right, and-make}
-use Rattle.octet.proofs.Lists.{run-all, run-before}
+use borrow.Author.Tests.{le-leb, leb-true, eq-eqb, eqb-true}
+use Rattle.octet.specs.Bytes.{part}
+use Rattle.octet.proofs.Cases.{of-cond, le-or-lt, and-left, and-right, and-make}
+use Rattle.octet.proofs.Lists.{drop-step, run-all, run-before}
 use Rattle.text.specs.Decimal.{digits, digitRun, digitsAtFront}
 use Rattle.text.specs.declared.Digits.{Digits}
 use Rattle.value.specs.Value.{wellFormed, wholes, pointAt, pointed, decimals, badPrice, priceIn}
+use Rattle.value.specs.Place.{Numeral, PriceForm}
 use Rattle.value.specs.Readers.{priced, priceFront, priceRead}
 use Rattle.value.specs.declared.Front.{Front}
 use Rattle.value.specs.declared.Price.the-variants as price
-use Rattle.value.proofs.Forms.{form-short, form-part, form-well}
-use Rattle.value.proofs.Numbers.{front-below}
+use Rattle.value.proofs.Forms.{form-short, form-part, form-well, form-good}
+use Rattle.value.proofs.Numbers.{front-below, front-numeral}
 
 -- a point is a byte of the value
 pub point-inside : (n : ℕ) (v : List ℕ) → pointAt n v ≡ true → n < length v
@@ -52,7 +55,7 @@ form-cond v true a b p q = refl
 form-cond v false a b p q = refl
 
 module _ (v : List ℕ) (f : Front) (e : f ≡ priceFront v) where
-  by-front : badPrice v ≡ wellFormed v (f .good) (f .complete)
+  pub by-front : badPrice v ≡ wellFormed v (f .good) (f .complete)
   unfolding badPrice priceFront
   by-front =
       form-cond v (pointed v) (wholes v + 1 + decimals v) (wholes v) (leb 1 (decimals v)) (leb 1 (wholes v))
@@ -119,30 +122,80 @@ pub price-read : (v : List ℕ) → badPrice v ≡ none → priceRead v ≡ pric
 unfolding priceRead
 price-read v e = ap (priced v) e
 
--- ---- digits, a point and digits
-module _ (x y : List ℕ) (dx : allIn 48 57 x ≡ true) (dy : allIn 48 57 y ≡ true) (lx : 1 ≤ length x) (mx : length x ≤ 7) (ly : 1 ≤ length y) (my : length y ≤ 4) where
-  whole-part : wholes (x ++ 46 ∷ y) ≡ length x
-  whole-part = omega (arith, run-before 48 57 x 46 y dx refl)
+-- ---- digits, a point, and what follows it
+module _ (x y : List ℕ) (m : Numeral 1 7 x) where
+  pub whole-part : wholes (x ++ 46 ∷ y) ≡ length x
+  whole-part = omega (arith, run-before 48 57 x 46 y (m .only) refl, m .most)
 
-  after-point : drop (wholes (x ++ 46 ∷ y) + 1) (x ++ 46 ∷ y) ≡ y
+  pub after-point : drop (wholes (x ++ 46 ∷ y) + 1) (x ++ 46 ∷ y) ≡ y
   after-point = ap (λ (n : ℕ). drop (n + 1) (x ++ 46 ∷ y)) whole-part ∙ drop-append-add x (46 ∷ y) 1
 
-  decimal-part : decimals (x ++ 46 ∷ y) ≡ length y
-  decimal-part = ap (λ (l : List ℕ). min 4 (digitRun l)) after-point ∙ omega (arith, run-all 48 57 y dy)
-
-  point-part : pointed (x ++ 46 ∷ y) ≡ true
+  pub point-part : pointed (x ++ 46 ∷ y) ≡ true
   point-part =
       ap (λ (n : ℕ). pointAt n (x ++ 46 ∷ y)) whole-part
-      ∙ and-make (leb 1 (length x)) (eqb (getD (x ++ 46 ∷ y) (length x) 0) 46) (le-leb 1 (length x) lx) (eq-eqb _ 46 (getD-append-seam x 46 y 0))
+      ∙ and-make (leb 1 (length x)) (eqb (getD (x ++ 46 ∷ y) (length x) 0) 46) (le-leb 1 (length x) (m .least)) (eq-eqb _ 46 (getD-append-seam x 46 y 0))
+
+-- digits follow it
+module _ (x y : List ℕ) (m : Numeral 1 7 x) (n : Numeral 1 4 y) where
+  decimal-part : decimals (x ++ 46 ∷ y) ≡ length y
+  decimal-part = ap (λ (l : List ℕ). min 4 (digitRun l)) (after-point x y m) ∙ omega (arith, run-all 48 57 y (n .only), n .most)
 
   pub price-formed : badPrice (x ++ 46 ∷ y) ≡ none
   unfolding badPrice
   price-formed =
       let l : length (x ++ 46 ∷ y) ≡ length x + suc (length y) = length-append x (46 ∷ y) in
-      rw (point-part)
+      rw (point-part x y m)
       (form-well (x ++ 46 ∷ y) (wholes (x ++ 46 ∷ y) + 1 + decimals (x ++ 46 ∷ y)) (leb 1 (decimals (x ++ 46 ∷ y)))
-      (omega (arith, whole-part, decimal-part)) (le-leb 1 (decimals (x ++ 46 ∷ y)) (omega (arith, decimal-part))))
+      (omega (arith, whole-part x y m, decimal-part)) (le-leb 1 (decimals (x ++ 46 ∷ y)) (omega (arith, decimal-part, n .least))))
 
   pub price-parts : priceIn (x ++ 46 ∷ y) ≡ digits x * 10000 + digits y * 10 ^ (4 - length y)
   unfolding priceIn
-  price-parts = rw (point-part) (rw (decimal-part, after-point, whole-part, take-append-seam, take-length))
+  price-parts = rw (point-part x y m) (rw (decimal-part, after-point x y m, whole-part x y m, take-append-seam, take-length))
+
+-- ---- which values are prices
+
+-- the bytes up to a point, and d after it
+pub point-cut : (k d : ℕ) (v : List ℕ) → pointAt k v ≡ true → take (k + 1 + d) v ≡ take k v ++ 46 ∷ part (k + 1) d v
+point-cut k d v t =
+    let n : k + 1 + d ≡ k + suc d = omega arith in
+    let b : getD v k 0 ≡ 46 = eqb-true (getD v k 0) 46 (and-right (leb 1 k) (eqb (getD v k 0) 46) t) in
+    ap (λ (j : ℕ). take j v) n
+    ∙ take-add k (suc d) v
+    ∙ ap (λ (l : List ℕ). take k v ++ take (suc d) l) (drop-step v k (point-inside k v t) ∙ ap (λ (x : ℕ). x ∷ drop (k + 1) v) b)
+
+-- the digits before a point, and those after it
+pub before-point : (v : List ℕ) → pointed v ≡ true → Numeral 1 7 (take (wholes v) v)
+before-point v t =
+    front-numeral 1 7 (wholes v) v (omega arith) (leb-true 1 (wholes v) (and-left (leb 1 (wholes v)) (eqb (getD v (wholes v) 0) 46) t)) (omega arith)
+
+pub decimals-numeral : (v : List ℕ) (low : ℕ) → low ≤ decimals v → Numeral low 4 (part (wholes v + 1) (decimals v) v)
+decimals-numeral v low l = front-numeral low 4 (decimals v) (drop (wholes v + 1) v) (omega arith) l (omega arith)
+
+pub price-form : (v : List ℕ) → badPrice v ≡ none → PriceForm v
+unfolding badPrice
+price-form v =
+    let w : ℕ = wholes v in
+    let d : ℕ = decimals v in
+    of-cond (λ (o : Option ℕ). o ≡ none → PriceForm v) (pointed v)
+    (λ t f. let g = form-good v (w + 1 + d) (leb 1 d) f in
+    inr (record {
+      wholes = take w v;
+      decimals = part (w + 1) d v;
+      parts = sym (take-all (w + 1 + d) v (omega (arith, g .0))) ∙ point-cut w d v t;
+      before = before-point v t;
+      after = decimals-numeral v 1 (leb-true 1 d (g .1));
+    }))
+    (λ t f. let g = form-good v w (leb 1 w) f in
+    inl (subst (Numeral 1 7) (take-all w v (omega (arith, g .0))) (front-numeral 1 7 w v (omega arith) (leb-true 1 w (g .1)) (omega arith))))
+
+-- digits alone
+plain-formed : (v : List ℕ) → Numeral 1 7 v → badPrice v ≡ none
+unfolding badPrice
+plain-formed v n =
+    let w : wholes v ≡ length v = omega (arith, run-all 48 57 v (n .only), n .most) in
+    of-cond (λ (o : Option ℕ). o ≡ none) (pointed v)
+    (λ t. absurd (omega (arith, point-inside (wholes v) v t)))
+    (λ t. form-well v (wholes v) (leb 1 (wholes v)) w (le-leb 1 (wholes v) (omega (arith, n .least))))
+
+pub price-well : (v : List ℕ) → PriceForm v → badPrice v ≡ none
+price-well v = ⊎-elim (plain-formed v) (λ p. ap badPrice (p .parts) ∙ price-formed (p .wholes) (p .decimals) (p .before) (p .after))
