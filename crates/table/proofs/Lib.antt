@@ -5,4 +5,5 @@ pub mod Messages
 pub mod Listed
 pub mod Meets
 pub mod Values
+pub mod Place
 pub mod Unique

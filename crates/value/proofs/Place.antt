@@ -23,7 +23,7 @@ use Rattle.value.specs.Readers.{priceFront}
 use Rattle.value.proofs.Forms.{form-well, form-good, form-at}
 use Rattle.value.proofs.Like.{like-most, like-rest, like-reach, like-run, like-size, like-whole}
 use Rattle.value.proofs.Numbers.{front-numeral, numeral, numeral-formed}
-use Rattle.value.proofs.Prices.{point-inside, by-front, whole-part, after-point, point-part, point-cut, before-point, decimals-numeral, price-form, price-well}
+use Rattle.value.proofs.Prices.{point-inside, by-front, whole-part, after-point, point-part, point-cut, wholes-numeral, decimals-numeral, price-form, price-well}
 use Rattle.value.proofs.Times.{time-lengths}
 use Rattle.value.proofs.Texts.{graph-only, graph-formed}
 
@@ -116,10 +116,10 @@ number-places =
 -- ---- prices
 
 -- how far a value is like a price
-abbrev like : List ℕ → ℕ
-like v = priceFront v .good
+abbrev priceFar : List ℕ → ℕ
+priceFar v = priceFront v .good
 
-price-inside : (v : List ℕ) → like v ≤ length v
+price-inside : (v : List ℕ) → priceFar v ≤ length v
 unfolding priceFront
 price-inside v =
     let rest = drop (wholes v + 1) v in
@@ -132,21 +132,21 @@ point-begin x y m n =
     let b = digits-begin 4 y (omega arith) n in
     (b .0, inr (record { wholes = x; decimals = y ++ b .0; parts = append-assoc x (46 ∷ y) (b .0); before = m; after = b .1 }))
 
-price-begin : (v : List ℕ) → Begins PriceForm (take (like v) v)
+price-begin : (v : List ℕ) → Begins PriceForm (take (priceFar v) v)
 unfolding priceFront
 price-begin v =
     of-cond (λ (n : ℕ). Begins PriceForm (take n v)) (pointed v)
     (λ t. subst (Begins PriceForm) (sym (point-cut (wholes v) (decimals v) v t))
-    (point-begin (take (wholes v) v) (part (wholes v + 1) (decimals v) v) (before-point v t) (decimals-numeral v 0 (omega arith))))
+    (point-begin (take (wholes v) v) (part (wholes v + 1) (decimals v) v) (wholes-numeral v t) (decimals-numeral v 0 (omega arith))))
     (λ t. let b = digits-begin 7 (take (wholes v) v) (omega arith) (front-numeral 0 7 (wholes v) v (omega arith) (omega arith) (omega arith)) in
     (b .0, inl (b .1)))
 
 -- as far as digits go, and as far as digits go after a point
-plain-reach : (v : List ℕ) (n : ℕ) → n ≤ wholes v → n ≤ like v
+plain-reach : (v : List ℕ) (n : ℕ) → n ≤ wholes v → n ≤ priceFar v
 unfolding priceFront
 plain-reach v n h = of-cond (λ (k : ℕ). n ≤ k) (pointed v) (λ t. omega arith) (λ t. h)
 
-point-reach : (x y : List ℕ) (k : ℕ) → Numeral 1 7 x → k ≤ 4 → k ≤ digitRun y → length x + suc k ≤ like (x ++ 46 ∷ y)
+point-reach : (x y : List ℕ) (k : ℕ) → Numeral 1 7 x → k ≤ 4 → k ≤ digitRun y → length x + suc k ≤ priceFar (x ++ 46 ∷ y)
 unfolding priceFront
 point-reach x y k m l h =
     let v = x ++ 46 ∷ y in
@@ -158,12 +158,12 @@ module _ (v w d rest : List ℕ) (n : ℕ) (h : n ≤ length v) (e : take n v ++
   first-bytes : take n v ≡ take n (w ++ 46 ∷ d)
   first-bytes = sym (take-at (take n v) rest n (length-take-le n v h)) ∙ ap (take n) e
 
-  before-reach : n ≤ length w → n ≤ like v
+  before-reach : n ≤ length w → n ≤ priceFar v
   before-reach l =
       let f : take n v ++ drop n w ≡ w = ap (λ (s : List ℕ). s ++ drop n w) (first-bytes ∙ take-append-le n w (46 ∷ d) l) ∙ take-append-drop n w in
       plain-reach v n (digits-reach 1 7 v n h (drop n w, subst (Numeral 1 7) (sym f) m))
 
-  after-reach : (k : ℕ) → n ≡ length w + suc k → n ≤ like v
+  after-reach : (k : ℕ) → n ≡ length w + suc k → n ≤ priceFar v
   after-reach k q =
       let y = take k d ++ drop n v in
       let f : take n v ≡ w ++ 46 ∷ take k d = first-bytes ∙ ap (λ (j : ℕ). take j (w ++ 46 ∷ d)) q ∙ take-append-add w (46 ∷ d) (suc k) in
@@ -171,9 +171,9 @@ module _ (v w d rest : List ℕ) (n : ℕ) (h : n ≤ length v) (e : take n v ++
       let l : k ≤ length d =
       omega (arith, q, sym (length-append (take n v) rest) ∙ ap length e ∙ length-append w (46 ∷ d), length-take-le n v h) in
       let r : k ≤ digitRun y = omega (arith, run-append (take k d) (drop n v) (allIn-take 48 57 k d (o .only)), length-take-le k d l) in
-      subst (λ (s : List ℕ). n ≤ like s) (sym c) (subst (λ (j : ℕ). j ≤ like (w ++ 46 ∷ y)) (sym q) (point-reach w y k m (omega (arith, o .most)) r))
+      subst (λ (s : List ℕ). n ≤ priceFar s) (sym c) (subst (λ (j : ℕ). j ≤ priceFar (w ++ 46 ∷ y)) (sym q) (point-reach w y k m (omega (arith, o .most)) r))
 
-price-reach : (v : List ℕ) (n : ℕ) → n ≤ length v → Begins PriceForm (take n v) → n ≤ like v
+price-reach : (v : List ℕ) (n : ℕ) → n ≤ length v → Begins PriceForm (take n v) → n ≤ priceFar v
 price-reach v n h b =
     ⊎-elim
     (λ d. plain-reach v n (digits-reach 1 7 v n h (b .0, d)))
@@ -185,7 +185,7 @@ price-reach v n h b =
 
 pub price-places : Places PriceForm badPrice
 price-places =
-    reader-places PriceForm badPrice like (λ v. priceFront v .complete) (λ v. by-front v (priceFront v) refl)
+    reader-places PriceForm badPrice priceFar (λ v. priceFront v .complete) (λ v. by-front v (priceFront v) refl)
     (λ v. (price-form v, price-well v)) price-inside price-begin price-reach
 
 -- ---- times

@@ -164,8 +164,8 @@ point-cut k d v t =
     ∙ ap (λ (l : List ℕ). take k v ++ take (suc d) l) (drop-step v k (point-inside k v t) ∙ ap (λ (x : ℕ). x ∷ drop (k + 1) v) b)
 
 -- the digits before a point, and those after it
-pub before-point : (v : List ℕ) → pointed v ≡ true → Numeral 1 7 (take (wholes v) v)
-before-point v t =
+pub wholes-numeral : (v : List ℕ) → pointed v ≡ true → Numeral 1 7 (take (wholes v) v)
+wholes-numeral v t =
     front-numeral 1 7 (wholes v) v (omega arith) (leb-true 1 (wholes v) (and-left (leb 1 (wholes v)) (eqb (getD v (wholes v) 0) 46) t)) (omega arith)
 
 pub decimals-numeral : (v : List ℕ) (low : ℕ) → low ≤ decimals v → Numeral low 4 (part (wholes v + 1) (decimals v) v)
@@ -182,7 +182,7 @@ price-form v =
       wholes = take w v;
       decimals = part (w + 1) d v;
       parts = sym (take-all (w + 1 + d) v (omega (arith, g .0))) ∙ point-cut w d v t;
-      before = before-point v t;
+      before = wholes-numeral v t;
       after = decimals-numeral v 1 (leb-true 1 d (g .1));
     }))
     (λ t f. let g = form-good v w (leb 1 w) f in
