@@ -2,7 +2,8 @@
 --     agreed     the IDs of a set-up that was granted
 --     time-clear     a time that is not refused
 --     text-plain, type-clear     the values of a message, and the type of a framed one
---     fault-small     the numbers of a fault
+--     text-inside     the length of a value
+--     Told, fault-told     a fault as a Reject can tell of it: its digits, and for reason 6 the value that fails
 use Prim.Native.Nat.{ℕ, zero, suc, _+_, _^_, _≤_, _<_}
 use mathlib.Core.Path.{_≡_, refl, sym, ap, _∙_, subst}
 use mathlib.Core.Logic.{⊎-elim}
@@ -10,11 +11,11 @@ use mathlib.Core.List.{List, [], _∷_, _++_, append-assoc}
 use mathlib.Core.Option.{Option, none, some}
 use mathlib.Core.Bool.{Bool, true, false, _&&_, not}
 use native.Mathlib.Omega.{arith}
-use lib.ListN.{length, take, drop, getD, replicate}
+use lib.ListN.{length, take, drop, getD, replicate, length-append, length-drop}
 use lib.Seq.{take-all}
 use lib.Dec.{ltb, eqb}
 use borrow.Author.Tests.{eqb-true, ltb-true, not-false}
-use Rattle.octet.specs.Bytes.{bytesOf, between, allIn, untilByte}
+use Rattle.octet.specs.Bytes.{bytesOf, between, allIn, untilByte, joined}
 use Rattle.octet.specs.Maybe.{orElse, first, unless}
 use Rattle.octet.specs.Splice.{splice}
 use Rattle.octet.proofs.Cases.{of-cond, bool-case, contrary, and-both}
@@ -33,7 +34,7 @@ use Rattle.field.specs.declared.Scan.{Scan}
 use Rattle.field.specs.declared.Scan.the-variants as scan
 use Rattle.field.proofs.Cuts.{pieces-mark}
 use Rattle.answer.specs.Setup.{idOf, idWith, ours, theirs}
-use Rattle.answer.specs.Numbers.{inside}
+use Rattle.answer.specs.Numbers.{inside, fault}
 use Rattle.answer.specs.declared.Setup.{Setup}
 use Rattle.answer.specs.declared.Fault.{Fault}
 use Rattle.answer.specs.declared.Phase.{Phase}
@@ -47,7 +48,8 @@ use Rattle.table.specs.declared.Given.{Given}
 use Rattle.table.specs.declared.Form.{Form}
 use Rattle.value.specs.declared.Check.{Check}
 use Rattle.value.specs.declared.Check.the-variants as check
-use Rattle.wire.specs.Sending.{SmallFault}
+use Rattle.table.specs.Place.{Misformed}
+use Rattle.table.proofs.Place.{misformed, at-inside}
 use Rattle.wire.specs.Reading.{Clear}
 use Rattle.receiver.specs.Receiver.{goodId, setupWith, settingUp, badGiven}
 use Rattle.receiver.specs.declared.SetUp.{SetUp}
@@ -158,6 +160,35 @@ first-plain (p ∷ ps) h = h .0
 pub text-plain : (tag : ℕ) (s : List ℕ) → Unmarked (textAt tag (piecesOf s))
 text-plain tag s = first-plain (valuesOf tag (piecesOf s)) (values-plain tag (piecesOf s) (pieces-plain s))
 
+-- ---- and are no longer than the body
+
+pieces-inside : (s : List ℕ) → length (joined (piecesOf s)) ≤ length s
+unfolding piecesOf
+pieces-inside [] = omega arith
+pieces-inside (b ∷ s) =
+    of-cond (λ (ps : Pieces). length (joined ps) ≤ suc (length s)) (eqb b 1) (λ h. omega (arith, pieces-inside s)) (λ h. omega (arith, one-more b (piecesOf s), pieces-inside s))
+  where
+    one-more : (b : ℕ) (ps : Pieces) → length (joined (onFirst b ps)) ≡ suc (length (joined ps))
+    one-more b [] = refl
+    one-more b (p ∷ ps) = refl
+
+values-inside : (tag : ℕ) (ps : Pieces) → length (joined (valuesOf tag ps)) ≤ length (joined ps)
+unfolding valuesOf
+values-inside tag [] = omega arith
+values-inside tag (p ∷ ps) =
+    let ih = values-inside tag ps in
+    let l = length-append p (joined ps) in
+    of-cond (λ (vs : Pieces). length (joined vs) ≤ length (p ++ joined ps)) (carries tag p)
+    (λ x. let k = length-append (drop (digitRun p + 1) p) (joined (valuesOf tag ps)) in omega (arith, length-drop (digitRun p + 1) p))
+    (λ x. omega arith)
+
+first-inside : (ps : Pieces) → length (unless [] (first ps)) ≤ length (joined ps)
+first-inside [] = omega arith
+first-inside (p ∷ ps) = omega (arith, length-append p (joined ps))
+
+text-inside : (tag : ℕ) (s : List ℕ) → length (textAt tag (piecesOf s)) ≤ length s
+text-inside tag s = omega (arith, first-inside (valuesOf tag (piecesOf s)), values-inside tag (piecesOf s), pieces-inside s)
+
 -- ---- the type of a framed message: "The body begins `35=`, 1 to 3 bytes, `|`"
 
 type-plain : (t : List ℕ) → Unmarked t → Unmarked (bytesOf "35=" ++ t)
@@ -178,20 +209,23 @@ type-clear s len h =
     let f : take 3 t ≡ t = take-all 3 t (x .few) in
     subst Clear (sym (ap (take 3) e ∙ f)) (x .some, x .plain)
 
--- ---- the numbers of a fault
+-- ---- the numbers of a fault: a tag of five digits, a reason of two
 
-abbrev pub SmallIf : Option Fault → Type 0
+abbrev Few : Fault → Type 0
+Few f = (f .tag < 10 ^ 5) × (f .reason < 10 ^ 2)
+
+abbrev SmallIf : Option Fault → Type 0
 SmallIf none = Unit {0}
-SmallIf (some f) = SmallFault f
+SmallIf (some f) = Few f
 
-pub or-small : (p q : Option Fault) → SmallIf p → SmallIf q → SmallIf (orElse p q)
+or-small : (p q : Option Fault) → SmallIf p → SmallIf q → SmallIf (orElse p q)
 or-small none q h k = k
 or-small (some f) q h k = h
 
 abbrev SmallScan : Scan → Type 0
 SmallScan scan.Sound = Unit {0}
 SmallScan scan.Malformed = Unit {0}
-SmallScan (scan.Empty tag) = tag < 2 ^ 32
+SmallScan (scan.Empty tag) = tag < 10 ^ 5
 
 -- a tag has 1 to 5 digits
 piece-small : (p : List ℕ) → SmallScan (pieceScan p)
@@ -262,10 +296,40 @@ walk-small given look (r ∷ rows) h =
     let p = and-both (ltb (tagOf r) 10000) (smallRows rows) h in
     or-small (rowFault given look r) (walk given look rows) (row-small given look r (ltb-true (tagOf r) 10000 (p .0))) (walk-small given look rows (p .1))
 
-pub fault-small : (setup : Setup) (phase : Phase) (o : ℕ) (ps : Pieces) → SmallIf (faultIn setup phase o ps)
+fault-small : (setup : Setup) (phase : Phase) (o : ℕ) (ps : Pieces) → SmallIf (faultIn setup phase o ps)
 unfolding faultIn firstFault
 fault-small setup phase o ps =
     let k : Kind = kindIn setup ps in
     let x = kind-small setup phase k in
     or-small (scanFault (scanOf ps)) _ (scanned-small (scanOf ps) (scan-small ps))
     (or-small (kindFault phase k) _ (x .0) (walk-small (givenOf phase o) (lookOf ps) (tableOf setup k) (x .1)))
+
+-- ---- a fault as a Reject tells of it
+
+pub record Told (setup : Setup) (ps : Pieces) (f : Fault) : Type 0 where
+  pub few : Few f
+  pub place : f .at < 10 ^ 4
+  pub form : f .reason ≡ 6 → Misformed setup ps f
+
+abbrev pub ToldIf : Setup → Pieces → Option Fault → Type 0
+ToldIf setup ps none = Unit {0}
+ToldIf setup ps (some f) = Told setup ps f
+
+-- one that is none of form
+pub plainly : (setup : Setup) (ps : Pieces) (reason tag : ℕ) → (reason ≡ 6 → ⊥) → reason < 10 ^ 2 → tag < 10 ^ 5 → Told setup ps (fault reason tag)
+plainly setup ps reason tag other r t = record { few = (t, r); place = omega arith; form = λ e. absurd (other e) }
+
+-- what steps 5 to 7 find in a framed message
+pub fault-told : (setup : Setup) (phase : Phase) (o : ℕ) (s : List ℕ) (len : ℕ) → foundIn s ≡ found.Framed len
+    → ToldIf setup (piecesOf (bodyIn len s)) (faultIn setup phase o (piecesOf (bodyIn len s)))
+fault-told setup phase o s len framed = go (faultIn setup phase o ps) refl (fault-small setup phase o ps)
+  where
+    ps : Pieces
+    ps = piecesOf (bodyIn len s)
+
+    place : (f : Fault) → faultIn setup phase o ps ≡ some f → f .at < 10 ^ 4
+    place f e = omega (arith, at-inside setup phase o ps f e, text-inside (f .tag) (bodyIn len s), sound opening s len framed .parts .high)
+
+    go : (o′ : Option Fault) → faultIn setup phase o ps ≡ o′ → SmallIf o′ → ToldIf setup ps o′
+    go none e h = tt
+    go (some f) e h = record { few = h; place = place f e; form = misformed setup phase o ps f e }

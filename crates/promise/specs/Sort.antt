@@ -6,7 +6,9 @@ use mathlib.Core.Bool.{Bool, true, false, cond, _||_, not}
 use lib.Dec.{eqb}
 use Rattle.octet.specs.Maybe.{first, unless, isNone}
 use Rattle.answer.specs.Numbers.{outcomeNumber, outcomeValues}
+use Rattle.answer.specs.declared.Fault.{Fault}
 use Rattle.answer.specs.declared.Outcome.{Outcome}
+use Rattle.answer.specs.declared.Outcome.the-variants as outcome
 use Rattle.answer.specs.declared.Refusal.{Refusal}
 use Rattle.session.specs.declared.Own.{Own}
 use Rattle.session.specs.declared.Own.the-variants.{Open, Beat, Ask, Close}
@@ -80,18 +82,37 @@ sortOf (Restart notes) = record { lent = noBuffer; time = none; phases = anyPhas
 
 -- ---- answers, by the numbers and values that the receiver's own table of them has (`tellsOf`)
 
--- what became of a framed message: the number under which a fill was booked (outcome 12) or an entry entered (13), and whether a Reject was written (outcomes 2 and 3)
+-- what became of a framed message: the number under which a fill was booked (outcome 12) or an entry entered (13), whether a Reject was written (outcomes 2 and 3), and of which
+-- fault
 pub record Became : Type 0 where
   pub booked : Option ℕ
   pub rejected : Bool
+  pub fault : Option Fault
 
 abbrev pub neitherNor : Became
-neitherNor = record { booked = none; rejected = false }
+neitherNor = record { booked = none; rejected = false; fault = none }
+
+abbrev pub faultOf : Outcome → Option Fault
+faultOf outcome.Ended = none
+faultOf (outcome.Rejected f) = some f
+faultOf (outcome.RejectedEnded f) = some f
+faultOf outcome.Dropped = none
+faultOf outcome.Gap = none
+faultOf outcome.In = none
+faultOf outcome.Heard = none
+faultOf outcome.Echoed = none
+faultOf outcome.Filled = none
+faultOf (outcome.Moved n) = none
+faultOf outcome.Aside = none
+faultOf outcome.Already = none
+faultOf (outcome.Booked n stepped) = none
+faultOf (outcome.Entered n) = none
 
 abbrev pub becameOf : Outcome → Became
 becameOf o = record {
   booked = cond (eqb (outcomeNumber o) 12 || eqb (outcomeNumber o) 13) (first (outcomeValues o)) none;
   rejected = eqb (outcomeNumber o) 2 || eqb (outcomeNumber o) 3;
+  fault = faultOf o;
 }
 
 -- the refusal that an answer is
@@ -110,6 +131,10 @@ isAlready a = whereGiven false (λ (o : Outcome). eqb (outcomeNumber o) 11) (tel
 
 abbrev pub isRejected : Answer → Bool
 isRejected a = became a .rejected
+
+-- the fault that it was rejected for
+abbrev pub rejectedFor : Answer → Option Fault
+rejectedFor a = became a .fault
 
 abbrev pub isGarbled : Answer → Bool
 isGarbled a = eqb (tellsOf a .number) 3

@@ -10,9 +10,12 @@ use Rattle.answer.specs.declared.Fault.{Fault}
 use Rattle.wire.specs.declared.Say.{Say}
 use Rattle.wire.specs.declared.Say.the-variants.{Logon, Heartbeat, Echo, Test, Logout, Resend, Reject, GapFill}
 
--- "at most 256 bytes"; "reply buffer under 512": two messages fit
+-- "at most 256 bytes"; of a Reject, in what calls write, 154; "reply buffer under 512": two messages fit
 abbrev pub longest : ℕ
 longest = 256
+
+abbrev pub longestReject : ℕ
+longestReject = 154
 
 abbrev pub replyRoom : ℕ
 replyRoom = 512
