@@ -1,10 +1,12 @@
 // Reads the messages that the receiver writes with QuickFIX, and compares: standard input has a reply on each line, in the code of the replay
 // language (`|` is byte 1, `\hh` a byte in hex), one message or several. QuickFIX's stream parser must cut the reply into its messages and leave
-// nothing over; its message parser must accept length and checksum; and every field must have the value that stands in the line.
+// nothing over; its message parser must accept length and checksum; every field must have the value that stands in the line; and a Reject must have
+// a Text, `at ` and a number, exactly where its SessionRejectReason is 6.
 #include <iostream>
 #include <map>
 #include <stdexcept>
 #include <string>
+#include <quickfix/Fields.h>
 #include <quickfix/Message.h>
 #include <quickfix/Parser.h>
 #include "code.h"
@@ -38,6 +40,26 @@ static void gather(Fields& fields, const FIX::FieldMap& part)
     for (const FIX::FieldBase& field : part) put(fields, field.getTag(), field.getString());
 }
 
+static int places = 0;
+
+// 58 of a Reject, by QuickFIX's own fields
+static void placed(const FIX::Message& reject)
+{
+    FIX::SessionRejectReason reason;
+    FIX::Text text;
+    reject.getField(reason);
+    if (!reject.getFieldIfSet(text))
+    {
+        if (reason == 6) throw runtime_error("reason 6 and no Text");
+        return;
+    }
+    if (reason != 6) throw runtime_error("a Text for another reason than 6");
+    string said = text;
+    if (said.compare(0, 3, "at ") != 0 || said.size() == 3 || said.find_first_not_of("0123456789", 3) != string::npos)
+        throw runtime_error("Text is " + said);
+    places++;
+}
+
 // what QuickFIX read
 static Fields read(const string& bytes)
 {
@@ -47,6 +69,7 @@ static Fields read(const string& bytes)
     if (!message.hasValidStructure(tag)) throw runtime_error("tag " + std::to_string(tag) + " is out of its place");
     for (int time : { FIX::FIELD::SendingTime, FIX::FIELD::OrigSendingTime })
         if (message.getHeader().isSetField(time)) FIX::UtcTimeStampConvertor::convert(message.getHeader().getField(time));
+    if (message.isSetField(FIX::FIELD::SessionRejectReason)) placed(message);
     Fields fields;
     gather(fields, message.getHeader());
     gather(fields, message);
@@ -96,6 +119,6 @@ int main()
             printf("FAILED line %d: %s: %s\n", lines, e.what(), line.c_str());
         }
     }
-    printf("%d messages read, %d lines failed\n", messages, failures);
+    printf("%d messages read, %d with a place, %d lines failed\n", messages, places, failures);
     return failures != 0;
 }

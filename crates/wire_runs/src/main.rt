@@ -4,8 +4,10 @@ use answer::BAR;
 use answer::Fault;
 use answer::Id;
 use answer::LARGEST;
+use answer::LAST_SEQUENCE;
 use answer::LAST_TO_SEND;
 use answer::Setup;
+use answer::reasons::WRONG_FORM;
 use wire::Reply;
 use wire::Say;
 
@@ -66,9 +68,32 @@ fn show_answers() {
     show(Reply::One(Say::GapFill(1, 1000)), 1000, b"");
 }
 
+// A fault of form.
+fn misformed(tag: u32, at: usize) -> Fault {
+    Fault {
+        reason: WRONG_FORM,
+        tag,
+        at,
+    }
+}
+
+// Rejects that say where: the second with the largest numbers that a call has for it.
+fn show_places() {
+    show(Reply::One(Say::Reject(7, misformed(31, 2))), 99, b"8");
+    show(
+        Reply::Two(
+            Say::Reject(LAST_SEQUENCE, misformed(9021, 4055)),
+            Say::Logout,
+        ),
+        LAST_TO_SEND,
+        b"UCC",
+    );
+}
+
 fn main() {
     show_own();
     show_answers();
+    show_places();
     show(
         Reply::Two(Say::Reject(7, Fault::of(5, 371)), Say::Logout),
         100,

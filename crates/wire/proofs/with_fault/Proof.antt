@@ -27,11 +27,10 @@ returns c =
     let r = c .before .before in
     let n = r .before .before .before .before .before .before in
     let start = n .before .before .before in
-    let f = start .args .fault in
-    (
+    let f = start .args .fault in (
       c .with-place .ensures
-      ∙ rw (r .number-at2 .ensures, r .before .before .field-at .ensures, r .before .before .before .before .with-named .ensures, n .number-at .ensures) 
-      (laid _ (45 is decimal (start .args .n)) (named (f .tag)) (372 is take 3 (start .args .word .now)) (373 is decimal (f .reason)) (placed f)),
+          ∙ rw (r .number-at2 .ensures, r .before .before .field-at .ensures, r .before .before .before .before .with-named .ensures, n .number-at .ensures)
+          (laid _ (45 is decimal (start .args .n)) (named (f .tag)) (372 is take 3 (start .args .word .now)) (373 is decimal (f .reason)) (placed f)),
       sized start,
     )
 
