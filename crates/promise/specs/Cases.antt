@@ -1,4 +1,4 @@
--- "Worked by hand (P is proved)": the paper's cases, as one table under one statement.
+-- "Worked by hand (P is proved)": the paper's cases, as one table under one statement; and a table of places of request C-14.
 use Prim.Native.Nat.{ℕ}
 use Prim.Native.String.{String}
 use mathlib.Core.Path.{_≡_}
@@ -13,6 +13,10 @@ use Rattle.frame.specs.declared.Found.the-variants.{Garbled, Framed}
 use Rattle.value.specs.Value.{isDay, numberOn}
 use Rattle.value.specs.Readers.{priceRead, priceReason, priceValues, timeChecked, checkReason}
 use Rattle.field.specs.Pieces.{piecesOf}
+use Rattle.table.specs.Steps.{badForm}
+use Rattle.table.specs.declared.Form.{Form}
+use Rattle.table.specs.declared.Form.the-variants.{Number, Price, Time, Graph}
+use Rattle.table.specs.declared.Range.the-variants.{Any}
 use Rattle.answer.specs.Numbers.{fault, phaseNumber}
 use Rattle.answer.specs.Setup.{idWith}
 use Rattle.answer.specs.declared.Setup.{Setup}
@@ -32,6 +36,7 @@ pub data Case : Type 0 where
   called : ℕ → ℕ → String → Outcome → ℕ → ℕ → String → Case
   price : String → ℕ → Case
   noPrice : String → ℕ → Case
+  breaks : Form → String → ℕ → Case
   day : String → Bool → Case
   rules : String → Option Fault → Case
 
@@ -64,6 +69,7 @@ Holds (message t found) = foundIn (bytesOf t) ≡ found
 Holds (called e o t became phase e′ reply) = Works e o (bytesOf t) became phase e′ (bytesOf reply)
 Holds (price t p) = (priceReason (priceRead (bytesOf t)) ≡ none) × (priceValues (priceRead (bytesOf t)) ≡ p ∷ [])
 Holds (noPrice t reason) = priceReason (priceRead (bytesOf t)) ≡ some reason
+Holds (breaks form t place) = badForm form (bytesOf t) ≡ some place
 Holds (day t is) = DayIs (bytesOf t) is
 Holds (rules t found) = ruleFault (reportIn (piecesOf (bytesOf t))) ≡ found
 
@@ -95,4 +101,50 @@ cases =
     ∷ day "20230229" false
     ∷ rules "38=50|32=20|14=20|151=30|150=1|39=1|" none
     ∷ rules "38=50|32=20|14=20|151=31|150=1|39=1|" (some (fault 5 151))
+    ∷ []
+
+-- "the place, from 0, of the first byte that breaks the form, or the value's length where it is too short", form by form; a report whose 31 is `5.`, and one whose 60 has its form
+-- and is no time
+abbrev pub places : List Case
+places =
+    breaks Price "5." 2
+    ∷ breaks Price ".5" 0
+    ∷ breaks Price "x" 0
+    ∷ breaks Price "1x.5" 1
+    ∷ breaks Price "12345678" 7
+    ∷ breaks Price "12345678.5" 7
+    ∷ breaks Price "1.23456" 6
+    ∷ breaks Price "1..2" 2
+    ∷ breaks Price "1.2.3" 3
+    ∷ breaks Price "1.2x" 3
+    ∷ breaks Price "-1" 0
+    ∷ breaks Price "1,05" 1
+    ∷ breaks Price "1234567.12345" 12
+    ∷ breaks (Number Any) "12a" 2
+    ∷ breaks (Number Any) "1234567890" 9
+    ∷ breaks (Number Any) "0000000001" 9
+    ∷ breaks (Number Any) "123456789x" 9
+    ∷ breaks (Number Any) "1234x67890" 4
+    ∷ breaks (Number Any) "x234567890" 0
+    ∷ breaks (Number Any) "+5" 0
+    ∷ breaks Time "2025" 4
+    ∷ breaks Time "2025x" 4
+    ∷ breaks Time "20250108 14:30:01" 8
+    ∷ breaks Time "20250108-14:30:01." 18
+    ∷ breaks Time "20250108-14:30:01.5" 19
+    ∷ breaks Time "20250108-14:30:01x" 17
+    ∷ breaks Time "20250108-14:30:01.0000" 21
+    ∷ breaks Time "20250108-14:30:0" 16
+    ∷ breaks Time "20251399-99:99:9x" 16
+    ∷ breaks Time "20250108-14:30:01,000" 17
+    ∷ breaks (Graph Any) "A B" 1
+    ∷ breaks (Graph Any) "ABCDEFGHIJKLMNOPQRSTUV WX" 22
+    ∷ called 7 10
+    "8=FIX.4.2|9=141|35=8|34=7|49=SPHR|56=FIRM|52=20250108-14:30:00|17=X1|37=7001|20=0|55=ABC|54=1|38=50|32=20|31=5.|14=20|151=30|150=1|39=1|60=20250108-14:29:59|10=164|"
+    (Rejected (record { reason = 6; tag = 31; at = 2 })) 2 8
+    "8=FIX.4.2|9=84|35=3|34=10|49=FIRM|56=SPHR|52=20250108-14:30:01.000|45=7|371=31|372=8|373=6|58=at 2|10=111|"
+    ∷ called 7 10
+    "8=FIX.4.2|9=140|35=8|34=7|49=SPHR|56=FIRM|52=20250108-14:30:00|17=X1|37=7001|20=0|55=ABC|54=1|38=50|32=20|31=5|14=20|151=30|150=1|39=1|60=20251399-99:99:99|10=154|"
+    (Rejected (fault 5 60)) 2 8
+    "8=FIX.4.2|9=76|35=3|34=10|49=FIRM|56=SPHR|52=20250108-14:30:01.000|45=7|371=60|372=8|373=5|10=159|"
     ∷ []
