@@ -25,7 +25,8 @@ use Rattle.session.specs.declared.Session.{Session}
 use Rattle.tally.specs.declared.Tally.{Tally}
 use Rattle.receiver.specs.State.{State, Did, quiet, sessionOf, withSession, noteOfChange}
 use Rattle.receiver.specs.Calls.{spoken, owned, settled, Deed, Refuse, Say as Saying, Keep, deedOf, booked, carriedOut, framed as framedTo, foundTo, message}
-use Rattle.receiver.specs.Receiver.{What, Own-call, Line-lost, Message, Offer, Begin-again, Acknowledge, New-day, Restart, Lent, refusalOf, unrefused, unless-refused, does, tallyAfter, Result, resultOf, call}
+use Rattle.receiver.specs.Receiver.{What, Own-call, Line-lost, Message, Offer, Begin-again, Acknowledge, New-day, Restart, Lent}
+use Rattle.receiver.specs.Receiver.{refusalOf, unrefused, unless-refused, does, tallyAfter, Result, resultOf, call}
 use Rattle.receiver.specs.declared.Answer.{Answer}
 use Rattle.receiver.specs.declared.Answer.the-variants.{Done, Refused, More, Garbled, Framed}
 use Rattle.promise.specs.Sort.{sortOf}
@@ -44,7 +45,8 @@ module _ (setup : Setup) (st : State) where
   spoken-now : (time word : List ℕ) (a : Answer) (next : Session) (r : Reply) → spoken setup st time word a next r ≡ spokenBy othersOf setup st time word a next r
   unfolding spoken
   spoken-now time word a next r =
-      ap (λ (s : List ℕ). record { answer = a; next = withSession st next; reply = s; note = noteOfChange (sessionOf st) next; line = [] }) (reply-now setup (st .kept .o) time word r)
+      ap (λ (s : List ℕ). record { answer = a; next = withSession st next; reply = s; note = noteOfChange (sessionOf st) next; line = [] })
+      (reply-now setup (st .kept .o) time word r)
 
   carried-now : (time : List ℕ) (len : ℕ) (ps : Pieces) (d : Deed) → carriedOut setup st time len ps d ≡ carriedBy othersOf setup st time len ps d
   unfolding carriedOut settled
@@ -127,7 +129,8 @@ silent : (d : Did) → d .reply ≡ [] → Same d d
 silent d e = record { answer = refl; next = refl; note = refl; line = refl; reply = record { messages = []; these = e; those = e } }
 
 module _ (setup : Setup) (st : State) where
-  spoken-same : (time word : List ℕ) (a : Answer) (next : Session) (r : Reply) → Same (spokenBy othersOf setup st time word a next r) (spokenBy formerOthers setup st time word a next r)
+  spoken-same : (time word : List ℕ) (a : Answer) (next : Session) (r : Reply)
+      → Same (spokenBy othersOf setup st time word a next r) (spokenBy formerOthers setup st time word a next r)
   spoken-same time word a next r = record { answer = refl; next = refl; note = refl; line = refl; reply = reply-forgets setup (st .kept .o) time word r }
 
   carried-same : (time : List ℕ) (len : ℕ) (ps : Pieces) (d : Deed) → Same (carriedBy othersOf setup st time len ps d) (carriedBy formerOthers setup st time len ps d)

@@ -68,12 +68,14 @@ use Rattle.receiver.specs.declared.Answer.the-variants as answer
 use Rattle.promise.specs.Sort.{sortOf, Became, neitherNor, became, isRejected, rejectedFor}
 use Rattle.promise.specs.Place.{valuesIn, placeSaid, Hurts}
 use Rattle.promise.specs.World.{world}
-use Rattle.promise.specs.WrittenRead.{MessagesReadBack, Writable, NotesReadBack, rejecting, Leads, Messages, fieldsIn, stampOf, wordIn, wordOf, hasReject, Replies, CallsReadBack}
+use Rattle.promise.specs.WrittenRead.{MessagesReadBack, Writable, NotesReadBack, CallsReadBack}
+use Rattle.promise.specs.WrittenRead.{rejecting, Leads, Messages, fieldsIn, stampOf, wordIn, wordOf, hasReject, Replies}
 use Rattle.promise.proofs.Executions.{none-some, or-false}
 use Rattle.promise.proofs.Acts.{may-write}
 use Rattle.promise.proofs.Good.{safe-live, good}
 use Rattle.promise.proofs.Reading.{Agreed, agreed, time-clear, type-clear, Told, ToldIf, plainly}
-use Rattle.promise.proofs.Speaking.{Sized, sized-small, Sayable, AllSayable, faultSaid, faultTold, isReject, saysReject, saying, Speaks, rejected-speaks, passed-speaks, settled-speaks}
+use Rattle.promise.proofs.Speaking.{Sized, sized-small, Sayable, AllSayable, faultSaid, faultTold, isReject, saysReject, saying}
+use Rattle.promise.proofs.Speaking.{Speaks, rejected-speaks, passed-speaks, settled-speaks}
 
 pub messages-read-back : MessagesReadBack
 messages-read-back setup o time word say given = wire.reads-back setup o time word say given
@@ -150,7 +152,8 @@ module _ (setup : Setup) (ps : Pieces) (o : ℕ) (time : List ℕ) (ids : Agreed
           reject-short setup (ids .widths .0) (ids .widths .1) n h time word k (x .0) f (x .1 .few .0) (x .1 .few .1) (x .1 .place)
       by-type (say.GapFill from to) x l = omega arith
 
-  lead : (n : ℕ) (word : List ℕ) (a : Say) (rest : List ℕ) → n < 10 ^ 9 → Sayable setup ps word a → Leads (messageOf setup n time word a ++ rest) rest (fieldsOf setup n time word a)
+  lead : (n : ℕ) (word : List ℕ) (a : Say) (rest : List ℕ) → n < 10 ^ 9 → Sayable setup ps word a
+      → Leads (messageOf setup n time word a ++ rest) rest (fieldsOf setup n time word a)
   lead n word a rest h x = record {
     message = messageOf setup n time word a;
     front = refl;
@@ -304,7 +307,8 @@ module _ (setup : Setup) (ps : Pieces) where
 
 -- ---- the message call
 
-module _ (setup : Setup) (st : State) (time s : List ℕ) (ids : Agreed setup) (stamp : Clear time × (length time ≡ 21)) (e-small : st .kept .e < 2 ^ 32) (o-small : st .kept .o < 999999999) where
+module _ (setup : Setup) (st : State) (time s : List ℕ) (ids : Agreed setup) (stamp : Clear time × (length time ≡ 21))
+    (e-small : st .kept .e < 2 ^ 32) (o-small : st .kept .o < 999999999) where
   abbrev Replied : Found → Did → Type 0
   Replied f d = Replies setup (st .kept .o) time (wordIn s f) (Hurts setup (Message time s)) d
 
@@ -404,7 +408,8 @@ bare setup st Line-lost h = record { reply = refl; rejected = (refl, refl) }
 bare setup st (Message time s) h = contrary refl h
 bare setup st Offer h = offer-bare st (nextOffer (st .offered) (st .kept .slots))
 bare setup st Begin-again h = record { reply = refl; rejected = (refl, refl) }
-bare setup st (Acknowledge n) h = of-cond Bare (leb n (st .kept .acked)) (λ _. record { reply = refl; rejected = (refl, refl) }) (λ _. record { reply = refl; rejected = (refl, refl) })
+bare setup st (Acknowledge n) h =
+    of-cond Bare (leb n (st .kept .acked)) (λ _. record { reply = refl; rejected = (refl, refl) }) (λ _. record { reply = refl; rejected = (refl, refl) })
 bare setup st New-day h = of-cond Bare (isEmpty (st .kept)) (λ _. record { reply = refl; rejected = (refl, refl) }) (λ _. record { reply = refl; rejected = (refl, refl) })
 bare setup st (Restart notes) h = again-bare st (restart notes)
 

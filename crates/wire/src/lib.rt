@@ -23,7 +23,8 @@ ghost use lib.ListN.{length};
 ghost use Rattle.answer.specs.Setup.{idOf};
 ghost use Rattle.text.specs.Fields.{_is_, fieldBytes, layout};
 ghost use Rattle.text.specs.Writing.{textWith, puts};
-ghost use Rattle.wire.specs.Messages.{framed, typeOf, isGapFill, sequenceOf, uses, named, placed, rejectOf, leadOf, datedOf, othersOf, messageOf, numberAfter, replyOf, usedBy};
+ghost use Rattle.wire.specs.Messages.{framed, typeOf, isGapFill, sequenceOf, uses, named, placed, rejectOf, leadOf, datedOf, othersOf};
+ghost use Rattle.wire.specs.Messages.{messageOf, numberAfter, replyOf, usedBy};
 ghost use Rattle.wire.specs.Sending.{SmallFault, Small, Sent, Replied};
 
 // What to write. Echo is the Heartbeat that answers a Test Request.
