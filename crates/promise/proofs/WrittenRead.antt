@@ -8,7 +8,7 @@ use native.Mathlib.Omega.{arith}
 use lib.ListN.{length, take}
 use lib.Dec.{leb, eqb}
 use Rattle.octet.specs.Bytes.{bytesOf, same}
-use Rattle.octet.specs.Maybe.{orElse, find, findLast}
+use Rattle.octet.specs.Maybe.{isNone, orElse, find, findLast}
 use Rattle.octet.proofs.Cases.{of-cond, contrary}
 use Rattle.text.specs.Decimal.{decimal}
 use Rattle.text.specs.Fields.{_is_, said}
@@ -65,7 +65,7 @@ use Rattle.receiver.specs.Calls.{spoken, owned, lost, settled, bookedAs, booked
 use Rattle.receiver.specs.Receiver.{What, Own-call, Line-lost, Message, Offer, Begin-again, Acknowledge, New-day, Restart, Lent, writing, refusalOf, unrefused, unless-refused, does}
 use Rattle.receiver.specs.declared.Answer.{Answer}
 use Rattle.receiver.specs.declared.Answer.the-variants as answer
-use Rattle.promise.specs.Sort.{sortOf, Became, neitherNor, became, isRejected, rejectedFor}
+use Rattle.promise.specs.Sort.{sortOf, Became, neitherNor, becameOf, became, rejectedFor}
 use Rattle.promise.specs.Place.{valuesIn, placeSaid, Hurts}
 use Rattle.promise.specs.World.{world}
 use Rattle.promise.specs.WrittenRead.{MessagesReadBack, Writable, NotesReadBack, CallsReadBack}
@@ -74,7 +74,7 @@ use Rattle.promise.proofs.Executions.{none-some, or-false}
 use Rattle.promise.proofs.Acts.{may-write}
 use Rattle.promise.proofs.Good.{safe-live, good}
 use Rattle.promise.proofs.Reading.{Agreed, agreed, time-clear, type-clear, Told, ToldIf, plainly}
-use Rattle.promise.proofs.Speaking.{Sized, sized-small, Sayable, AllSayable, faultSaid, faultTold, isReject, saysReject, saying}
+use Rattle.promise.proofs.Speaking.{Sized, sized-small, Sayable, AllSayable, faultSaid, faultTold, saying}
 use Rattle.promise.proofs.Speaking.{Speaks, rejected-speaks, passed-speaks, settled-speaks}
 
 pub messages-read-back : MessagesReadBack
@@ -94,11 +94,21 @@ notes-read-back = record {
 
 -- ---- one message, and a reply
 
--- its type, and what it says in 58
+-- whether it is a Reject, by its type, and what it says in 58
+
+abbrev isReject : Say → Bool
+isReject a = not (isNone (faultSaid a))
 
 type-reject : (setup : Setup) (o : ℕ) (time word : List ℕ) (a : Say) → rejecting (fieldsOf setup o time word a) ≡ isReject a
 unfolding headerOf
-type-reject setup o time word a = refl
+type-reject setup o time word say.Logon = refl
+type-reject setup o time word say.Heartbeat = refl
+type-reject setup o time word say.Echo = refl
+type-reject setup o time word say.Test = refl
+type-reject setup o time word say.Logout = refl
+type-reject setup o time word (say.Resend from) = refl
+type-reject setup o time word (say.Reject n f) = refl
+type-reject setup o time word (say.GapFill from to) = refl
 
 reject-places : (named placed : Bool) (n tag reason word place : List ℕ)
     → valuesWith 58 ((45 is n) ∷ (said named ((371 is tag) ∷ []) ++ (372 is word) ∷ (373 is reason) ∷ said placed ((58 is place) ∷ []))) ≡ cond placed (place ∷ []) []
@@ -175,11 +185,13 @@ module _ (setup : Setup) (ps : Pieces) (o : ℕ) (time : List ℕ) (ids : Agreed
 
 -- ---- a reply's Reject, and its place
 
-reply-rejects : (setup : Setup) (o : ℕ) (time word : List ℕ) (r : Reply) → hasReject (fieldsIn setup o time word r) ≡ saysReject r
-reply-rejects setup o time word Nothing = refl
-reply-rejects setup o time word (One a) = or-false _ ∙ type-reject setup o time word a
-reply-rejects setup o time word (Two a b) =
-    ap₂ _||_ (type-reject setup o time word a) (or-false _ ∙ type-reject setup (numberAfter o a) time word b)
+reply-rejects : (setup : Setup) (ps : Pieces) (o : ℕ) (time word : List ℕ) (r : Reply) → AllSayable setup ps word r
+    → hasReject (fieldsIn setup o time word r) ≡ not (isNone (faultTold r))
+reply-rejects setup ps o time word Nothing x = refl
+reply-rejects setup ps o time word (One a) x = or-false _ ∙ type-reject setup o time word a
+reply-rejects setup ps o time word (Two a b) x =
+    let k : isReject b ≡ false = ap (λ (f : Option Fault). not (isNone f)) (x .2) in
+    ap₂ _||_ (type-reject setup o time word a) (or-false _ ∙ type-reject setup (numberAfter o a) time word b ∙ k) ∙ or-false _
 
 reply-places : (setup : Setup) (ps : Pieces) (o : ℕ) (time word : List ℕ) (r : Reply) → AllSayable setup ps word r
     → valuesIn 58 (fieldsIn setup o time word r) ≡ placeSaid (faultTold r)
@@ -207,20 +219,16 @@ reply-told setup ps word (Two a b) x = said-told setup ps a (x .0 .sized)
 
 -- ---- a call
 
--- nothing is rejected
-abbrev Unrejected : Answer → Type 0
-Unrejected a = (isRejected a ≡ false) × (rejectedFor a ≡ none)
-
 module _ (setup : Setup) (o : ℕ) (time : List ℕ) (word : Reply → List ℕ) (Hurt : Fault → Type 0) (d : Did) where
-  replies-nothing : d .reply ≡ [] → Unrejected (d .answer) → Replies setup o time word Hurt d
+  replies-nothing : d .reply ≡ [] → rejectedFor (d .answer) ≡ none → Replies setup o time word Hurt d
   unfolding replyOf
   replies-nothing e h = record {
     reply = Nothing;
     bytes = e;
     read = e;
-    rejected = sym (h .0);
-    placed = sym (ap placeSaid (h .1));
-    hurts = λ f x six. none-some f (sym (h .1) ∙ x);
+    rejected = sym (ap (λ (o : Option Fault). not (isNone o)) h);
+    placed = sym (ap placeSaid h);
+    hurts = λ f x six. none-some f (sym h ∙ x);
   }
 
   replies-with : (ps : Pieces) (r : Reply) → Agreed setup → Clear time × (length time ≡ 21) → o < 999999999
@@ -230,10 +238,10 @@ module _ (setup : Setup) (o : ℕ) (time : List ℕ) (word : Reply → List ℕ)
     reply = r;
     bytes = e;
     read = subst (λ (s : List ℕ). Messages s (fieldsIn setup o time (word r) r)) (sym e) (reply-reads setup ps o time ids stamp small (word r) r x);
-    rejected = reply-rejects setup o time (word r) r ∙ ap (λ (b : Became). b .rejected) (sym h);
-    placed = reply-places setup ps o time (word r) r x ∙ ap (λ (b : Became). placeSaid (b .fault)) (sym h);
+    rejected = reply-rejects setup ps o time (word r) r x ∙ ap (λ (b : Became). not (isNone (b .rejected))) (sym h);
+    placed = reply-places setup ps o time (word r) r x ∙ ap (λ (b : Became). placeSaid (b .rejected)) (sym h);
     hurts = λ f told six.
-        let e : faultTold r ≡ some f = ap (λ (b : Became). b .fault) (sym h) ∙ told in
+        let e : faultTold r ≡ some f = ap (λ (b : Became). b .rejected) (sym h) ∙ told in
         hurt f e (subst (ToldIf setup ps) e (reply-told setup ps (word r) r x) .form six);
   }
 
@@ -312,7 +320,7 @@ module _ (setup : Setup) (st : State) (time s : List ℕ) (ids : Agreed setup) (
   abbrev Replied : Found → Did → Type 0
   Replied f d = Replies setup (st .kept .o) time (wordIn s f) (Hurts setup (Message time s)) d
 
-  nothing-replied : (f : Found) (d : Did) → d .reply ≡ [] → Unrejected (d .answer) → Replied f d
+  nothing-replied : (f : Found) (d : Did) → d .reply ≡ [] → rejectedFor (d .answer) ≡ none → Replied f d
   nothing-replied f d e h = replies-nothing setup (st .kept .o) time (wordIn s f) (Hurts setup (Message time s)) d e h
 
   module _ (len : ℕ) (framed-so : foundIn s ≡ found.Framed len) where
@@ -336,15 +344,15 @@ module _ (setup : Setup) (st : State) (time s : List ℕ) (ids : Agreed setup) (
     unfolding carriedOut
     said-replied j x = settled-replied j x
 
-    unrejected : (f : Slot) → Unrejected (answer.Framed len (bookedAs st f))
-    unrejected f = of-cond (λ (o : Outcome). Unrejected (answer.Framed len o)) (isEntry f) (λ _. (refl, refl)) (λ _. (refl, refl))
+    unrejected : (f : Slot) → becameOf (bookedAs st f) .rejected ≡ none
+    unrejected f = of-cond (λ (o : Outcome). becameOf o .rejected ≡ none) (isEntry f) (λ _. refl) (λ _. refl)
 
     booked-replied : (f : Slot) → Does (withRoom st f)
     unfolding withRoom carriedOut booked
     booked-replied f =
         of-cond Does (hasRoom (st .kept .slots) (st .kept .rows) (st .kept .load) f)
         (λ _. nothing-replied (found.Framed len) (booked st len f) refl (unrejected f))
-        (λ _. nothing-replied (found.Framed len) (quiet (answer.Refused refusal.NoRoom) st) refl (refl, refl))
+        (λ _. nothing-replied (found.Framed len) (quiet (answer.Refused refusal.NoRoom) st) refl refl)
 
     clear : Clear (take 3 (textAt 35 ps))
     clear = type-clear s len framed-so
@@ -378,8 +386,8 @@ module _ (setup : Setup) (st : State) (time s : List ℕ) (ids : Agreed setup) (
 
   found-replied : (f : Found) → foundIn s ≡ f → Replied f (foundTo setup st time s f)
   unfolding foundTo framed deedOf bringsOf
-  found-replied found.More e = nothing-replied found.More (quiet answer.More st) refl (refl, refl)
-  found-replied (found.Garbled skip) e = nothing-replied (found.Garbled skip) (quiet (answer.Garbled skip) st) refl (refl, refl)
+  found-replied found.More e = nothing-replied found.More (quiet answer.More st) refl refl
+  found-replied (found.Garbled skip) e = nothing-replied (found.Garbled skip) (quiet (answer.Garbled skip) st) refl refl
   found-replied (found.Framed len) e = judged-replied len e (judge setup (sessionOf st) (piecesOf (bodyIn len s))) refl
 
   message-replied : Replied (foundIn s) (message setup st time s)
@@ -390,27 +398,27 @@ module _ (setup : Setup) (st : State) (time s : List ℕ) (ids : Agreed setup) (
 
 pub record Bare (d : Did) : Type 0 where
   pub reply : d .reply ≡ []
-  pub rejected : Unrejected (d .answer)
+  pub rejected : rejectedFor (d .answer) ≡ none
 
 offer-bare : (st : State) (o : Option Slot) → Bare (offerOf st o)
-offer-bare st none = record { reply = refl; rejected = (refl, refl) }
-offer-bare st (some f) = record { reply = refl; rejected = (refl, refl) }
+offer-bare st none = record { reply = refl; rejected = refl }
+offer-bare st (some f) = record { reply = refl; rejected = refl }
 
 again-bare : (st : State) (o : Restarting) → Bare (restarted st o)
 unfolding restarted
-again-bare st (Again q whole) = record { reply = refl; rejected = (refl, refl) }
-again-bare st (Unlawful at) = record { reply = refl; rejected = (refl, refl) }
+again-bare st (Again q whole) = record { reply = refl; rejected = refl }
+again-bare st (Unlawful at) = record { reply = refl; rejected = refl }
 
 pub bare : (setup : Setup) (st : State) (w : What) → sortOf w .lent .reply ≡ false → Bare (unrefused setup st w)
 unfolding unrefused lost offer beginAgain acknowledge newDay
 bare setup st (Own-call own time) h = contrary refl h
-bare setup st Line-lost h = record { reply = refl; rejected = (refl, refl) }
+bare setup st Line-lost h = record { reply = refl; rejected = refl }
 bare setup st (Message time s) h = contrary refl h
 bare setup st Offer h = offer-bare st (nextOffer (st .offered) (st .kept .slots))
-bare setup st Begin-again h = record { reply = refl; rejected = (refl, refl) }
+bare setup st Begin-again h = record { reply = refl; rejected = refl }
 bare setup st (Acknowledge n) h =
-    of-cond Bare (leb n (st .kept .acked)) (λ _. record { reply = refl; rejected = (refl, refl) }) (λ _. record { reply = refl; rejected = (refl, refl) })
-bare setup st New-day h = of-cond Bare (isEmpty (st .kept)) (λ _. record { reply = refl; rejected = (refl, refl) }) (λ _. record { reply = refl; rejected = (refl, refl) })
+    of-cond Bare (leb n (st .kept .acked)) (λ _. record { reply = refl; rejected = refl }) (λ _. record { reply = refl; rejected = refl })
+bare setup st New-day h = of-cond Bare (isEmpty (st .kept)) (λ _. record { reply = refl; rejected = refl }) (λ _. record { reply = refl; rejected = refl })
 bare setup st (Restart notes) h = again-bare st (restart notes)
 
 -- ---- every call
@@ -419,7 +427,7 @@ module _ (setup : Setup) (st : State) (b : Lent) (ids : Agreed setup) (sound : S
   abbrev Fine : What → Did → Type 0
   Fine w d = Replies setup (st .kept .o) (stampOf w) (wordOf w) (Hurts setup w) d
 
-  nothing-said : (w : What) (d : Did) → d .reply ≡ [] → Unrejected (d .answer) → Fine w d
+  nothing-said : (w : What) (d : Did) → d .reply ≡ [] → rejectedFor (d .answer) ≡ none → Fine w d
   nothing-said w d e h = replies-nothing setup (st .kept .o) (stampOf w) (wordOf w) (Hurts setup w) d e h
 
   o-fits : (time : List ℕ) (allowed : Bool) → writing setup b time allowed (st .kept .o) ≡ none → st .kept .o < 999999999
@@ -434,7 +442,7 @@ module _ (setup : Setup) (st : State) (b : Lent) (ids : Agreed setup) (sound : S
       let stamp = time-clear time (may-write setup b time (mayCall own (st .phase)) (st .kept .o) h .0) in
       let x = own-sayable setup own in
       replies-with setup (st .kept .o) time (λ (r : Reply). []) (Hurts setup (Own-call own time)) (owned setup st time own) [] (One (says own)) ids stamp
-      (o-fits time (mayCall own (st .phase)) h) refl (x .0) (x .1) (λ f e m. none-some f (ap (λ (b : Became). b .fault) (x .1) ∙ e))
+      (o-fits time (mayCall own (st .phase)) h) refl (x .0) (x .1) (λ f e m. none-some f (ap (λ (b : Became). b .rejected) (x .1) ∙ e))
 
   unsaid : (w : What) → sortOf w .lent .reply ≡ false → Fine w (unrefused setup st w)
   unsaid w h = let x = bare setup st w h in nothing-said w (unrefused setup st w) (x .reply) (x .rejected)
@@ -458,7 +466,7 @@ module _ (setup : Setup) (st : State) (b : Lent) (ids : Agreed setup) (sound : S
     where
       go : (o : Option Refusal) → refusalOf setup st b w ≡ o → Fine w (unless-refused st o (unrefused setup st w))
       go none e = unrefused-said w e
-      go (some why) e = nothing-said w (quiet (answer.Refused why) st) refl (refl, refl)
+      go (some why) e = nothing-said w (quiet (answer.Refused why) st) refl refl
 
 pub calls-read-back : CallsReadBack
 calls-read-back ss c g = call-said (c .setup) (world ss .live) (c .lent) (agreed (c .setup) g) (safe-live (world ss) (good ss) .sound) (c .what)

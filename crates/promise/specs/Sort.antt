@@ -82,15 +82,13 @@ sortOf (Restart notes) = record { lent = noBuffer; time = none; phases = anyPhas
 
 -- ---- answers, by the numbers and values that the receiver's own table of them has (`tellsOf`)
 
--- what became of a framed message: the number under which a fill was booked (outcome 12) or an entry entered (13), whether a Reject was written (outcomes 2 and 3), and of which
--- fault
+-- what became of a framed message: the number under which a fill was booked (outcome 12) or an entry entered (13), and the fault for which a Reject was written
 pub record Became : Type 0 where
   pub booked : Option ℕ
-  pub rejected : Bool
-  pub fault : Option Fault
+  pub rejected : Option Fault
 
 abbrev pub neitherNor : Became
-neitherNor = record { booked = none; rejected = false; fault = none }
+neitherNor = record { booked = none; rejected = none }
 
 abbrev pub faultOf : Outcome → Option Fault
 faultOf outcome.Ended = none
@@ -111,8 +109,7 @@ faultOf (outcome.Entered n) = none
 abbrev pub becameOf : Outcome → Became
 becameOf o = record {
   booked = cond (eqb (outcomeNumber o) 12 || eqb (outcomeNumber o) 13) (first (outcomeValues o)) none;
-  rejected = eqb (outcomeNumber o) 2 || eqb (outcomeNumber o) 3;
-  fault = faultOf o;
+  rejected = faultOf o;
 }
 
 -- the refusal that an answer is
@@ -129,12 +126,11 @@ isBooked a = not (isNone (became a .booked))
 abbrev pub isAlready : Answer → Bool
 isAlready a = whereGiven false (λ (o : Outcome). eqb (outcomeNumber o) 11) (tellsOf a .became)
 
-abbrev pub isRejected : Answer → Bool
-isRejected a = became a .rejected
-
--- the fault that it was rejected for
 abbrev pub rejectedFor : Answer → Option Fault
-rejectedFor a = became a .fault
+rejectedFor a = became a .rejected
+
+abbrev pub isRejected : Answer → Bool
+isRejected a = not (isNone (rejectedFor a))
 
 abbrev pub isGarbled : Answer → Bool
 isGarbled a = eqb (tellsOf a .number) 3
