@@ -13,7 +13,7 @@ use lib.ListN.{length, take}
 use lib.Seq.{take-all, length-take-le}
 use lib.Dec.{lit<, leb}
 use borrow.Author.Tests.{le-leb, lt-leb, eq-eqb, leb-true}
-use Rattle.octet.specs.Bytes.{between, allIn}
+use Rattle.octet.specs.Bytes.{between}
 use Rattle.octet.proofs.Cases.{cond-true, cond-false}
 use Rattle.octet.proofs.Places.{below-pow}
 use Rattle.octet.proofs.Lists.{is-between, is-below, is-above, between-low, between-high, run-all, run-is-all, run-most}
