@@ -63,7 +63,6 @@ use Rattle.session.proofs.Turns.{judge-report, judge-correction}
 use Rattle.receiver.specs.State.{State, Did, quiet, sessionOf}
 use Rattle.receiver.specs.Calls.{spoken, owned, lost, settled, bookedAs, booked, Deed, Say as Saying, This, ofReport, broughtBy, bringsOf, withRoom, placedAs, becomes, deedOf, carriedOut, framed, foundTo, message, offerOf, offer, beginAgain, acknowledge, isEmpty, newDay, restarted}
 use Rattle.receiver.specs.Receiver.{What, Own-call, Line-lost, Message, Offer, Begin-again, Acknowledge, New-day, Restart, Lent, writing, refusalOf, unrefused, unless-refused, does}
-use Rattle.receiver.specs.declared.Answer.{Answer}
 use Rattle.receiver.specs.declared.Answer.the-variants as answer
 use Rattle.promise.specs.Sort.{sortOf, Became, neitherNor, becameOf, became, rejectedFor}
 use Rattle.promise.specs.Place.{valuesIn, placeSaid, Hurts}
