@@ -84,8 +84,8 @@ static string identifier(const string &front, int number) {
 }
 
 // execution `exec` of order `order`, with the tags that an option's report of the drop carries
-static string report(int number, int exec, int order, const string &status = "1", const string &more = "") {
-    return framed(head("8", number) + "57=DESK|1=HOUSE|6=0|11=A17|14=2|17=" + identifier("SPHR20261113", exec) + "|20=0|31=1.05|32=1|37=" +
+static string report(int number, int exec, int order, const string &status = "1", const string &more = "", const string &price = "1.05") {
+    return framed(head("8", number) + "57=DESK|1=HOUSE|6=0|11=A17|14=2|17=" + identifier("SPHR20261113", exec) + "|20=0|31=" + price + "|32=1|37=" +
                   identifier("ORD-20261113", order) + "|38=5|39=" + status + "|40=2|54=1|55=XYZ|60=20261113-14:30:00.120|150=1|151=3|" + more);
 }
 
@@ -312,6 +312,7 @@ struct Bench {
         const string fresh = report(FILLS, FILLS - 1, ORDERS - 1), known = report(FILLS, FILLS - 1, ORDERS - 2);
         const string again = report(FILLS + 1, FILLS - 1, ORDERS - 1), oldest = report(FILLS + 1, 0, 0), beat = framed(head("0", FILLS + 1));
         const string test = framed(head("1", FILLS + 1) + "112=ARE-YOU-THERE-0513|"), wrong = report(FILLS, FILLS - 1, ORDERS - 1, "2");
+        const string unformed = report(FILLS, FILLS - 1, ORDERS - 1, "1", "", "5.");
         const string fields = long_report(4096, true), text = long_report(4096, false), bust = cancel(FILLS, ENTRIES - 1);
         return {
             {"(a) report booked, 0 fills", booking("a", 0, fresh), parse(fresh, 17), 0.27},
@@ -323,6 +324,7 @@ struct Bench {
             {"(c) Heartbeat", call("c", full, beat, FILLS + 1, HEARD, 0, 9), parse(beat, 35), 0.5},
             {"(d) Test Request, answered", call("d", full, test, FILLS + 1, ECHOED, 60, 9), parse(test, 112), 0},
             {"(e) report rejected by its last rule", call("e", day_of(511), wrong, FILLS, REJECTED, 60, 9), parse(wrong, 17), 0},
+            {"    report rejected for the form of its price", call("e", day_of(511), unformed, FILLS, REJECTED, 60, 9), parse(unformed, 17), 0},
             {"(f) report of 4,096 bytes, " + std::to_string(std::count(fields.begin(), fields.end(), '\001')) + " fields", booking("f", 0, fields),
              parse(fields, 17), 0.15},
             {"    report of 4,096 bytes, one long text", booking("f", 0, text), parse(text, 17), 0},

@@ -30,6 +30,7 @@ use Rattle.receiver.specs.Receiver.{refusalOf, unrefused, unless-refused, does,
 use Rattle.receiver.specs.declared.Answer.{Answer}
 use Rattle.receiver.specs.declared.Answer.the-variants.{Done, Refused, More, Garbled, Framed}
 use Rattle.promise.specs.Sort.{sortOf}
+use Rattle.promise.specs.WrittenRead.{stampOf}
 use Rattle.promise.specs.Former.{formerOthers, replyBy, spokenBy, carriedBy, foundBy, unrefusedBy, callBy, forget, Forgetting, AsBefore, NothingElse}
 use Rattle.promise.proofs.WrittenRead.{bare}
 
@@ -102,52 +103,61 @@ module _ (setup : Setup) (o : ℕ) (time word : List ℕ) where
 abbrev laid : List Field → List ℕ
 laid fields = framed opening (layout fields)
 
-reply-forgets : (setup : Setup) (o : ℕ) (time word : List ℕ) (r : Reply) → Forgetting 58 (replyBy othersOf setup o time word r) (replyBy formerOthers setup o time word r)
-reply-forgets setup o time word Nothing = record { messages = []; these = refl; those = refl }
+reply-forgets : (setup : Setup) (o : ℕ) (time word : List ℕ) (r : Reply)
+    → Forgetting 58 setup o time (replyBy othersOf setup o time word r) (replyBy formerOthers setup o time word r)
+reply-forgets setup o time word Nothing = record { said = Nothing; word = word; these = refl; those = refl }
 reply-forgets setup o time word (One a) = record {
-  messages = fieldsOf setup o time word a ∷ [];
+  said = One a;
+  word = word;
   these = sym (append-nil _);
   those = sym (append-nil _ ∙ ap laid (message-forgets setup o time word a));
 }
 reply-forgets setup o time word (Two a b) = record {
-  messages = fieldsOf setup o time word a ∷ fieldsOf setup (numberAfter o a) time word b ∷ [];
+  said = Two a b;
+  word = word;
   these = ap (λ (s : List ℕ). laid (fieldsOf setup o time word a) ++ s) (sym (append-nil (laid (fieldsOf setup (numberAfter o a) time word b))));
   those = sym (ap₂ _++_ (ap laid (message-forgets setup o time word a)) (append-nil _ ∙ ap laid (message-forgets setup (numberAfter o a) time word b)));
 }
 
 -- ---- a call, forgetting 58
 
-record Same (now before : Did) : Type 0 where
+record Same (setup : Setup) (o : ℕ) (time : List ℕ) (now before : Did) : Type 0 where
   answer : now .answer ≡ before .answer
   next : now .next ≡ before .next
   note : now .note ≡ before .note
   line : now .line ≡ before .line
-  reply : Forgetting 58 (now .reply) (before .reply)
+  reply : Forgetting 58 setup o time (now .reply) (before .reply)
 
 -- what writes no message
-silent : (d : Did) → d .reply ≡ [] → Same d d
-silent d e = record { answer = refl; next = refl; note = refl; line = refl; reply = record { messages = []; these = e; those = e } }
+silent : (setup : Setup) (o : ℕ) (time : List ℕ) (d : Did) → d .reply ≡ [] → Same setup o time d d
+silent setup o time d e = record { answer = refl; next = refl; note = refl; line = refl; reply = record { said = Nothing; word = []; these = e; those = e } }
 
 module _ (setup : Setup) (st : State) where
+  abbrev Alike : List ℕ → Did → Did → Type 0
+  Alike time now before = Same setup (st .kept .o) time now before
+
+  still : (time : List ℕ) (d : Did) → d .reply ≡ [] → Alike time d d
+  still time d e = silent setup (st .kept .o) time d e
+
   spoken-same : (time word : List ℕ) (a : Answer) (next : Session) (r : Reply)
-      → Same (spokenBy othersOf setup st time word a next r) (spokenBy formerOthers setup st time word a next r)
+      → Alike time (spokenBy othersOf setup st time word a next r) (spokenBy formerOthers setup st time word a next r)
   spoken-same time word a next r = record { answer = refl; next = refl; note = refl; line = refl; reply = reply-forgets setup (st .kept .o) time word r }
 
-  carried-same : (time : List ℕ) (len : ℕ) (ps : Pieces) (d : Deed) → Same (carriedBy othersOf setup st time len ps d) (carriedBy formerOthers setup st time len ps d)
+  carried-same : (time : List ℕ) (len : ℕ) (ps : Pieces) (d : Deed) → Alike time (carriedBy othersOf setup st time len ps d) (carriedBy formerOthers setup st time len ps d)
   unfolding booked
-  carried-same time len ps (Refuse why) = silent (quiet (Refused why) st) refl
+  carried-same time len ps (Refuse why) = still time (quiet (Refused why) st) refl
   carried-same time len ps (Saying j) = spoken-same time (textAt (wordTag (j .reply)) ps) (Framed len (j .outcome)) (j .next) (j .reply)
-  carried-same time len ps (Keep s) = silent (booked st len s) refl
+  carried-same time len ps (Keep s) = still time (booked st len s) refl
 
-  found-same : (time s : List ℕ) (f : Found) → Same (foundBy othersOf setup st time s f) (foundBy formerOthers setup st time s f)
-  found-same time s found.More = silent (quiet More st) refl
-  found-same time s (found.Garbled skip) = silent (quiet (Garbled skip) st) refl
+  found-same : (time s : List ℕ) (f : Found) → Alike time (foundBy othersOf setup st time s f) (foundBy formerOthers setup st time s f)
+  found-same time s found.More = still time (quiet More st) refl
+  found-same time s (found.Garbled skip) = still time (quiet (Garbled skip) st) refl
   found-same time s (found.Framed len) = let ps = piecesOf (bodyIn len s) in carried-same time len ps (deedOf setup st ps)
 
-  mute : (w : What) → sortOf w .lent .reply ≡ false → Same (unrefused setup st w) (unrefused setup st w)
-  mute w h = silent (unrefused setup st w) (bare setup st w h .reply)
+  mute : (w : What) → sortOf w .lent .reply ≡ false → Alike (stampOf w) (unrefused setup st w) (unrefused setup st w)
+  mute w h = still (stampOf w) (unrefused setup st w) (bare setup st w h .reply)
 
-  unrefused-same : (w : What) → Same (unrefusedBy othersOf setup st w) (unrefusedBy formerOthers setup st w)
+  unrefused-same : (w : What) → Alike (stampOf w) (unrefusedBy othersOf setup st w) (unrefusedBy formerOthers setup st w)
   unfolding unrefused
   unrefused-same (Own-call own time) = spoken-same time [] Done (ownCall own (sessionOf st)) (One (says own))
   unrefused-same Line-lost = mute Line-lost refl
@@ -158,12 +168,13 @@ module _ (setup : Setup) (st : State) where
   unrefused-same New-day = mute New-day refl
   unrefused-same (Restart notes) = mute (Restart notes) refl
 
-  same-unless : (o : Option Refusal) (now before : Did) → Same now before → Same (unless-refused st o now) (unless-refused st o before)
-  same-unless none now before h = h
-  same-unless (some why) now before h = silent (quiet (Refused why) st) refl
+  same-unless : (time : List ℕ) (o : Option Refusal) (now before : Did) → Alike time now before → Alike time (unless-refused st o now) (unless-refused st o before)
+  same-unless time none now before h = h
+  same-unless time (some why) now before h = still time (quiet (Refused why) st) refl
 
-result-same : (t : Tally) (now before : Did) → Same now before → AsBefore (resultOf t now) (resultOf t before)
-result-same t now before h = record {
+result-same : (setup : Setup) (o : ℕ) (time : List ℕ) (t : Tally) (now before : Did) → Same setup o time now before
+    → AsBefore setup o time (resultOf t now) (resultOf t before)
+result-same setup o time t now before h = record {
   answer = h .answer;
   next = h .next;
   note = h .note;
@@ -177,6 +188,6 @@ nothing-else setup st b t w =
     let e = call-now setup st b t w in
     record {
       now = e;
-      before = subst (λ (r : Result). AsBefore r (callBy formerOthers setup st b t w)) (sym e)
-          (result-same t _ _ (same-unless setup st (refusalOf setup st b w) _ _ (unrefused-same setup st w)));
+      before = subst (λ (r : Result). AsBefore setup (st .kept .o) (stampOf w) r (callBy formerOthers setup st b t w)) (sym e)
+          (result-same setup (st .kept .o) (stampOf w) t _ _ (same-unless setup st (stampOf w) (refusalOf setup st b w) _ _ (unrefused-same setup st w)));
     }

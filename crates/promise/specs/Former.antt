@@ -28,6 +28,7 @@ use Rattle.receiver.specs.Calls.{lost, Deed, Refuse, Say as Saying, Keep, deedO
 use Rattle.receiver.specs.Receiver.{What, Own-call, Line-lost, Message, Offer, Begin-again, Acknowledge, New-day, Restart, Lent, refusalOf, unless-refused, Result, resultOf, call}
 use Rattle.receiver.specs.declared.Answer.{Answer}
 use Rattle.receiver.specs.declared.Answer.the-variants.{Done, Refused, More, Garbled, Framed}
+use Rattle.promise.specs.WrittenRead.{fieldsIn, stampOf}
 
 -- ---- before
 
@@ -107,22 +108,23 @@ abbrev pub forgetIn : ℕ → List (List Field) → List (List Field)
 forgetIn tag [] = []
 forgetIn tag (fields ∷ more) = forget tag fields ∷ forgetIn tag more
 
--- the bytes are those of some messages, and were those of the same with the tag forgotten
-pub record Forgetting (tag : ℕ) (now before : List ℕ) : Type 0 where
-  pub messages : List (List Field)
-  pub these : now ≡ sent messages
-  pub those : before ≡ sent (forgetIn tag messages)
+-- where O is o, at this time: the bytes are those of what is said, and were those of the same with the tag forgotten
+pub record Forgetting (tag : ℕ) (setup : Setup) (o : ℕ) (time now before : List ℕ) : Type 0 where
+  pub said : Reply
+  pub word : List ℕ
+  pub these : now ≡ sent (fieldsIn setup o time word said)
+  pub those : before ≡ sent (forgetIn tag (fieldsIn setup o time word said))
 
 -- outcome, state, note and tally are equal, the line as well; and forgetting 58, and with it 9 and 10, the reply is the one before
-pub record AsBefore (now before : Result) : Type 0 where
+pub record AsBefore (setup : Setup) (o : ℕ) (time : List ℕ) (now before : Result) : Type 0 where
   pub answer : now .did .answer ≡ before .did .answer
   pub next : now .did .next ≡ before .did .next
   pub note : now .did .note ≡ before .did .note
   pub line : now .did .line ≡ before .did .line
   pub tally : now .tally ≡ before .tally
-  pub reply : Forgetting 58 (now .did .reply) (before .did .reply)
+  pub reply : Forgetting 58 setup o time (now .did .reply) (before .did .reply)
 
 -- any call, in any state
 pub record NothingElse (setup : Setup) (st : State) (b : Lent) (t : Tally) (w : What) : Type 0 where
   pub now : call setup st b t w ≡ callBy othersOf setup st b t w
-  pub before : AsBefore (call setup st b t w) (callBy formerOthers setup st b t w)
+  pub before : AsBefore setup (st .kept .o) (stampOf w) (call setup st b t w) (callBy formerOthers setup st b t w)

@@ -1,25 +1,26 @@
 -- Where a value fails its form.
 --     one-place, missing     over any form: the place is one, and it is the value's length exactly where bytes are missing
 --     reader-places     a reader says that place: which facts it takes
---     number-places, price-places, time-places, graph-places     the four readers say it
+--     number-places, price-places, time-places, graph-places     the four forms' tests say it
+--     read-number-places, read-price-places, read-time-places, read-graph-places     and so do the answers of the four readers
 use mathlib.Core.Path.{_≡_, refl, sym, ap, _∙_, subst}
 use mathlib.Core.Logic.{_↔_, inl, inr, ⊎-elim}
 use mathlib.Core.List.{List, [], _∷_, _++_, append-nil, append-assoc}
 use mathlib.Core.Option.{Option, none, some}
-use mathlib.Core.Bool.{Bool, true}
+use mathlib.Core.Bool.{Bool, true, false}
 use Prim.Native.Nat.{ℕ, suc, _+_, _-_, _≤_, _<_, min}
 use native.Mathlib.Omega.{arith}
 use lib.ListN.{length, take, drop, length-append, length-drop, take-append-drop}
 use lib.Seq.{take-length, length-take-le, take-at, take-append-le, take-append-add}
 use lib.Dec.{leb}
-use Rattle.octet.specs.Bytes.{bytesOf, allIn, runIn, part}
+use Rattle.octet.specs.Bytes.{bytesOf, between, allIn, runIn, part}
 use Rattle.octet.proofs.Cases.{le-or-lt, of-cond, and-left}
 use Rattle.octet.proofs.Lists.{allIn-append, allIn-take, run-most, run-in, run-reach}
-use Rattle.text.specs.Decimal.{digitRun}
+use Rattle.text.specs.Decimal.{digits, digitRun}
 use Rattle.text.proofs.ReadLaws.{run-append}
-use Rattle.value.specs.Value.{wellFormed, badNumber, badGraph, wholes, pointed, decimals, badPrice, likeRun, timePattern, timeLong, badTime}
+use Rattle.value.specs.Value.{wellFormed, badNumber, badGraph, wholes, pointed, decimals, badPrice, likeRun, timePattern, timeLong, badTime, timeFits}
 use Rattle.value.specs.Place.{Begins, FailsAt, Places, Numeral, NumberForm, PriceForm, likeAll, TimeForm, GraphForm}
-use Rattle.value.specs.Readers.{priceFront}
+use Rattle.value.specs.Readers.{checkPlace, numberPlace, pricePlace, checked, numbered, priced, numberRead, priceFront, priceRead, timeChecked, graphChecked}
 use Rattle.value.proofs.Forms.{form-well, form-good, form-at}
 use Rattle.value.proofs.Like.{like-most, like-rest, like-reach, like-run, like-size, like-whole}
 use Rattle.value.proofs.Numbers.{front-numeral, numeral, numeral-formed}
@@ -225,3 +226,44 @@ time-places =
     (like-most timePattern)
     (λ v. (drop (likeRun timePattern v) timePattern, inr (like-rest timePattern v)))
     (λ v n h b. ⊎-elim (alike-reach short thousandths v refl n (b .0) h) (alike-reach timePattern [] v refl n (b .0) h) (b .1))
+
+-- ---- the answers of the readers
+
+-- what a reader answers has that place, whatever the range
+checked-place : (form : Option ℕ) (fits : Bool) → checkPlace (checked form fits) ≡ form
+checked-place (some at) fits = refl
+checked-place none true = refl
+checked-place none false = refl
+
+numbered-place : (v : List ℕ) (form : Option ℕ) (fits : Bool) → numberPlace (numbered v form fits) ≡ form
+numbered-place v (some at) fits = refl
+numbered-place v none true = refl
+numbered-place v none false = refl
+
+priced-place : (v : List ℕ) (form : Option ℕ) → pricePlace (priced v form) ≡ form
+priced-place v (some at) = refl
+priced-place v none = refl
+
+-- places that are told alike
+same-places : (Good : List ℕ → Type 0) (bad told : List ℕ → Option ℕ) → ((v : List ℕ) → told v ≡ bad v) → Places Good bad → Places Good told
+same-places Good bad told e x = record {
+  formed = λ v. (λ h. x .formed v .0 (sym (e v) ∙ h), λ g. e v ∙ x .formed v .1 g);
+  fails = λ v p. (λ h. x .fails v p .0 (sym (e v) ∙ h), λ f. e v ∙ x .fails v p .1 f);
+}
+
+pub read-number-places : (low high : ℕ) → Places NumberForm (λ v. numberPlace (numberRead low high v))
+unfolding numberRead
+read-number-places low high =
+    same-places NumberForm badNumber _ (λ v. numbered-place v (badNumber v) (between low high (digits v))) number-places
+
+pub read-price-places : Places PriceForm (λ v. pricePlace (priceRead v))
+unfolding priceRead
+read-price-places = same-places PriceForm badPrice _ (λ v. priced-place v (badPrice v)) price-places
+
+pub read-time-places : Places TimeForm (λ v. checkPlace (timeChecked v))
+unfolding timeChecked
+read-time-places = same-places TimeForm badTime _ (λ v. checked-place (badTime v) (timeFits v)) time-places
+
+pub read-graph-places : (least most : ℕ) → Places GraphForm (λ v. checkPlace (graphChecked least most v))
+unfolding graphChecked
+read-graph-places least most = same-places GraphForm badGraph _ (λ v. checked-place (badGraph v) (between least most (length v))) graph-places
