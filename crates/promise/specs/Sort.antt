@@ -90,6 +90,7 @@ pub record Became : Type 0 where
 abbrev pub neitherNor : Became
 neitherNor = record { booked = none; rejected = none }
 
+-- of outcomes 2 and 3
 abbrev pub faultOf : Outcome → Option Fault
 faultOf outcome.Ended = none
 faultOf (outcome.Rejected f) = some f
