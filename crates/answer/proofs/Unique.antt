@@ -7,9 +7,6 @@ use Rattle.answer.specs.contracts.Outcome.number as outcome-number
 use Rattle.answer.specs.contracts.Refusal.number as refusal-number
 use Rattle.answer.specs.contracts.Setup.ours as ours
 use Rattle.answer.specs.contracts.Setup.theirs as theirs
-use Rattle.answer.specs.contracts.Setup.venue as venue
-use Rattle.answer.specs.contracts.Venue.id as venue-id
-use Rattle.answer.specs.contracts.Venue.is_emerald as is-emerald
 
 pub fault-one : Once of.ended (λ M 𝓤. of.clauses 𝓤) (λ κs r e. r)
 fault-one M 𝓤 𝓛 mem run κs a g = (_, λ r e. alone 𝓤)
@@ -31,12 +28,3 @@ ours-one M 𝓤 𝓛 mem run κs a g = (_, λ r e. alone 𝓤)
 
 pub theirs-one : Once theirs.ended (λ M 𝓤. theirs.clauses 𝓤) (λ κs r e. r)
 theirs-one M 𝓤 𝓛 mem run κs a g = (_, λ r e. alone 𝓤)
-
-pub venue-one : Once venue.ended (λ M 𝓤. venue.clauses 𝓤) (λ κs r e. r)
-venue-one M 𝓤 𝓛 mem run κs a g = (_, λ r e. alone 𝓤)
-
-pub venue-id-one : Once venue-id.ended (λ M 𝓤. venue-id.clauses 𝓤) (λ κs r e. r)
-venue-id-one M 𝓤 𝓛 mem run κs a g = (_, λ r e. alone 𝓤)
-
-pub is-emerald-one : Once is-emerald.ended (λ M 𝓤. is-emerald.clauses 𝓤) (λ κs r e. r)
-is-emerald-one M 𝓤 𝓛 mem run κs a g = (_, λ r e. alone 𝓤)

@@ -1,15 +1,8 @@
--- A set-up: our ID, and the venue, which fixes the exchange's.
-use Rattle.std.specs.Prelude.{List, Bool, true, false, ℕ, length, take, replicate}
-use Rattle.std.proofs.Math.Option.{Option, none, some}
-use Rattle.octet.specs.Bytes.{bytes_of}
+-- The agreed IDs of a set-up.
+use Rattle.std.specs.Prelude.{List, ℕ, length, take, replicate}
 use Rattle.octet.specs.Splice.{splice}
 use Rattle.answer.specs.declared.Id.{Id}
-use Rattle.answer.specs.declared.Venue.{Venue}
-use Rattle.answer.specs.declared.Venue.TheVariants.{Sapphire, Emerald}
 use Rattle.answer.specs.declared.Setup.{Setup}
-use Rattle.answer.specs.declared.Leave.{Leave}
-use Rattle.answer.specs.declared.Leave.TheVariants as leave
-use Rattle.answer.specs.declared.Refusal.{Refusal}
 
 abbrev pub id_of : Id → List ℕ
 id_of i = take i.len i.bytes
@@ -18,23 +11,8 @@ id_of i = take i.len i.bytes
 unfoldable pub id_with : List ℕ → Id
 id_with t = record { bytes = splice (replicate 16 0) 0 t; len = length t }
 
--- "the exchange's ID is EMLD where Sapphire's is SPHR"
-abbrev pub venue_id : Venue → List ℕ
-venue_id Sapphire = bytes_of "SPHR"
-venue_id Emerald = bytes_of "EMLD"
-
-abbrev pub is_emerald : Venue → Bool
-is_emerald Sapphire = false
-is_emerald Emerald = true
-
 abbrev pub ours : Setup → List ℕ
 ours setup = id_of setup.ours
 
--- "the venue fixes the agreed ID"
 abbrev pub theirs : Setup → List ℕ
-theirs setup = venue_id setup.venue
-
--- a refusal, or leave to go on
-abbrev pub leave_of : Option Refusal → Leave
-leave_of none = leave.Granted
-leave_of (some why) = leave.Refused why
+theirs setup = id_of setup.theirs

@@ -5,7 +5,6 @@ pub mod tags;
 
 ghost use Rattle.std.specs.Prelude.{◌≡◌};
 ghost use Rattle.answer.specs.Numbers.{fault, counted, phase_number, refusal_number, outcome_number};
-ghost use Rattle.answer.specs.Setup.{id_with, venue_id, is_emerald};
 
 // "`|` below is byte 1".
 pub const BAR: u8 = 1;
@@ -32,50 +31,11 @@ pub struct Id {
     pub len: usize,
 }
 
-// The exchanges that have such a drop.
-#[derive(Drop)]
-pub enum Venue {
-    Sapphire,
-    Emerald,
-}
-
-// "the exchange's ID is EMLD where Sapphire's is SPHR".
-const SAPPHIRE: Id = Id {
-    bytes: *b"SPHR\0\0\0\0\0\0\0\0\0\0\0\0",
-    len: 4,
-};
-
-const EMERALD: Id = Id {
-    bytes: *b"EMLD\0\0\0\0\0\0\0\0\0\0\0\0",
-    len: 4,
-};
-
-impl Venue {
-    // The exchange's agreed ID.
-    pub fn id(self) -> Id
-        ensures { result ≡ id_with (venue_id self) }
-    {
-        match self {
-            Venue::Sapphire => SAPPHIRE,
-            Venue::Emerald => EMERALD,
-        }
-    }
-
-    pub fn is_emerald(self) -> bool
-        ensures { result ≡ is_emerald self }
-    {
-        match self {
-            Venue::Sapphire => false,
-            Venue::Emerald => true,
-        }
-    }
-}
-
-// What a receiver is set up with: our ID, and the venue. It is asked by its methods: where an answer comes from is nothing to those who ask.
+// What a receiver is set up with. It is asked by its methods: where an answer comes from is nothing to those who ask.
 #[derive(Drop)]
 pub struct Setup {
     pub ours: Id,
-    pub venue: Venue,
+    pub theirs: Id,
 }
 
 impl Setup {
@@ -85,18 +45,10 @@ impl Setup {
         self.ours
     }
 
-    // "the venue fixes the agreed ID".
     pub fn theirs(self) -> Id
-        ensures { result ≡ id_with (venue_id self.venue) }
+        ensures { result ≡ self.theirs }
     {
-        let venue = self.venue;
-        venue.id()
-    }
-
-    pub fn venue(self) -> Venue
-        ensures { result ≡ self.venue }
-    {
-        self.venue
+        self.theirs
     }
 }
 
@@ -204,13 +156,6 @@ impl Outcome {
             Outcome::Entered(_) => 13,
         }
     }
-}
-
-// Whether a call may go on, or why it is refused.
-#[derive(Drop)]
-pub enum Leave {
-    Granted,
-    Refused(Refusal),
 }
 
 // Why a call was refused.

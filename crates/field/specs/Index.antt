@@ -9,11 +9,11 @@ use Rattle.field.specs.declared.Piece.TheVariants.{Field, Stray}
 unfoldable pub listed : List ℕ
 listed =
     34 ∷ 49 ∷ 56 ∷ 43 ∷ 52 ∷ 97 ∷ 98 ∷ 108 ∷ 141 ∷ 112 ∷ 7 ∷ 16 ∷ 123 ∷ 36 ∷ 17 ∷ 37 ∷ 20 ∷ 55 ∷ 54 ∷ 38 ∷ 32 ∷ 31 ∷ 14 ∷ 151 ∷ 150 ∷ 39
-    ∷ 60 ∷ 442 ∷ 35 ∷ 9020 ∷ 1003 ∷ 9021 ∷ 11 ∷ 42 ∷ 167 ∷ 6 ∷ 40 ∷ 204 ∷ 200 ∷ 205 ∷ 201 ∷ 202 ∷ 461 ∷ []
+    ∷ 60 ∷ 442 ∷ 35 ∷ 9020 ∷ 1003 ∷ 9021 ∷ 11 ∷ 42 ∷ 167 ∷ []
 
 -- how many they are: the one place of this number
 abbrev pub column_count : ℕ
-column_count = 43
+column_count = 35
 
 -- where a number stands in a list, and the list's length where it does not
 unfoldable pub position : List ℕ → ℕ → ℕ

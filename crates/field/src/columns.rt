@@ -69,19 +69,3 @@ pub const CLIENT_ORDER: usize = 32; // 11
 pub const ORIGINAL_TIME: usize = 33; // 42
 
 pub const SECURITY: usize = 34; // 167
-
-pub const AVERAGE_PRICE: usize = 35; // 6
-
-pub const ORDER_TYPE: usize = 36; // 40
-
-pub const ORIGIN: usize = 37; // 204
-
-pub const EXPIRY_MONTH: usize = 38; // 200
-
-pub const EXPIRY_DAY: usize = 39; // 205
-
-pub const PUT_OR_CALL: usize = 40; // 201
-
-pub const STRIKE: usize = 41; // 202
-
-pub const STOCK_LEG: usize = 42; // 461

@@ -1,8 +1,8 @@
 -- A lawful slot of a fill is made of what it tells: nothing of its bytes is left open.
 --     told-sound     what it tells is what a report can say of a fill
 --     slot-again     and the slot of that is the slot itself
-use mathlib.Core.Path.{◌≡◌, refl, sym, ap, ap₂, ◌∙◌}
-use mathlib.Core.List.{List, ◌∷◌, ◌++◌}
+use mathlib.Core.Path.{◌≡◌, sym, ap, ◌∙◌}
+use mathlib.Core.List.{List, ◌∷◌}
 use mathlib.Core.Bool.{true, ◌&&◌}
 use Prim.Native.Nat.{ℕ, ◌+◌, ◌-◌, ◌≤◌, ◌<◌}
 use native.Mathlib.Omega.{arith}
@@ -13,20 +13,18 @@ use Rattle.octet.specs.Padded.{padded, text_of}
 use Rattle.octet.proofs.Cases.{and_both}
 use Rattle.octet.proofs.Lists.{length_part, all_in-part, drop-step}
 use Rattle.octet.proofs.Padded.{ok-text, ok-padded, ok-least}
-use Rattle.parts.specs.Parts.{laid}
-use Rattle.parts.proofs.ReadBack.{AllFormed, values_from, laid-join, laid-again}
-use Rattle.fill.specs.Terms.{term_parts, term_values}
-use Rattle.fill.specs.Slot.{Slot, Fill, fill_of, common_parts, slot_parts, common_values, values_of, width_of, place_of, slot_width, common_width, body_of, slot_of, fill_mark, mark_of, is_fill}
-use Rattle.fill.specs.Slot.{exec_of, order_of, symbol_of, side_of, quantity_of, shares_of, price_of, cum_of, time_of, terms_of, text_lawful, most_price, fill_lawful}
+use Rattle.parts.specs.Parts.{Value, laid}
+use Rattle.parts.proofs.ReadBack.{AllFormed, values_from, laid-again}
+use Rattle.fill.specs.Slot.{Slot, Fill, fill_of, slot_parts, values_of, width_of, place_of, slot_width, body_of, slot_of, fill_mark, mark_of, is_fill}
+use Rattle.fill.specs.Slot.{exec_of, order_of, symbol_of, side_of, quantity_of, shares_of, price_of, cum_of, time_of, text_lawful, most_price, fill_lawful}
 use Rattle.fill.proofs.Fields.{Sound}
-use Rattle.fill.proofs.Said.{lawful-sound, terms-again}
-use Rattle.fill.proofs.Lawful.{lawful_both, lawful-parts, lawful-sums}
+use Rattle.fill.proofs.Lawful.{lawful-parts, lawful-sums}
 use Rattle.fill.proofs.Lines.{text-most}
 
 -- what a slot tells of a fill
 abbrev pub told_by : Slot → Fill
 told_by s =
-    fill_of (text_of (exec_of s)) (text_of (order_of s)) (text_of (symbol_of s)) (side_of s) (quantity_of s) (shares_of s) (price_of s) (cum_of s) (time_of s) (terms_of s)
+    fill_of (text_of (exec_of s)) (text_of (order_of s)) (text_of (symbol_of s)) (side_of s) (quantity_of s) (shares_of s) (price_of s) (cum_of s) (time_of s)
 
 -- its texts
 texts : (s : Slot) → fill_lawful s ≡ true → (text_lawful (exec_of s) ≡ true) × (text_lawful (order_of s) ≡ true) × (text_lawful (symbol_of s) ≡ true)
@@ -69,7 +67,6 @@ module _ (s : Slot) (wide : length s ≡ slot_width) (law : fill_lawful s ≡ tr
         quantity-most = n.most;
         price-most = leb-true (price_of s) most_price p.3;
         time-time = p.4;
-        terms-sound = lawful-sound s (lawful_both s law).1;
       }
 
   module _ (fill : is_fill s ≡ true) (bytes : all_in 0 255 s ≡ true) where
@@ -83,21 +80,15 @@ module _ (s : Slot) (wide : length s ≡ slot_width) (law : fill_lawful s ≡ tr
         let order = text-formed 21 (order_of s) (part-long 1 (omega arith)) (omega arith) t.1 in
         let symbol = text-formed 9 (symbol_of s) (part-long 2 (omega arith)) (omega arith) t.2 in
         let n : (i : ℕ) → all_in 0 255 (part (place_of i) (width_of i) s) ≡ true = λ i. all_in-part 0 255 (place_of i) (width_of i) s bytes in
-        (exec, (order, (symbol, (n 3, (n 4, (n 5, (n 6, (n 7, (tt, (tt, (tt, (tt, (tt, (n 13, (n 14, tt)))))))))))))))
+        (exec, (order, (symbol, (n 3, (n 4, (n 5, (n 6, (n 7, (tt, tt)))))))))
 
     -- its time is whole
-    common-values : common_values (told_by s) ≡ values_from common_parts 1 s
-    common-values = rw (part-long 8 (omega arith))
-
-    told-laid : laid slot_parts (values_of (told_by s)) ≡ laid slot_parts (values_from slot_parts 1 s)
-    told-laid =
-        laid-join common_parts term_parts (common_values (told_by s)) (term_values (terms_of s)) refl
-        ∙ ap₂ (λ (a b : List ℕ). a ++ b) (ap (laid common_parts) common-values) (terms-again s (lawful_both s law).1 wide)
-        ∙ sym (laid-join common_parts term_parts (values_from common_parts 1 s) (values_from term_parts common_width s) refl)
+    told-values : values_of (told_by s) ≡ values_from slot_parts 1 s
+    told-values = rw (part-long 8 (omega arith))
 
     pub slot-again : slot_of (body_of (told_by s)) ≡ s
     unfolding body_of
     slot-again =
-        ap (λ (l : List ℕ). fill_mark ∷ l) told-laid
+        ap (λ (vs : List Value). fill_mark ∷ laid slot_parts vs) told-values
         ∙ ap (λ (b : List ℕ). fill_mark ∷ b) (laid-again slot_parts 1 s wide formed)
         ∙ sym marked

@@ -8,29 +8,29 @@
 --     key-same, same_key     two slots have the same key exactly where TradeID, CorrectionNum, Side and ExecTransType are the same
 --     contents-same, same-contents     two slots are the same exactly where all of the two entries is
 use mathlib.Core.Path.{◌≡◌, refl, sym, ap, ap₂, ◌∙◌}
-use mathlib.Core.List.{List, [], ◌∷◌, ◌++◌}
-use mathlib.Core.Logic.{◌⊎◌, inr}
+use mathlib.Core.List.{List, [], ◌∷◌, ◌++◌, append_assoc, append-nil}
+use mathlib.Core.Logic.{◌⊎◌}
 use mathlib.Core.Bool.{true, false}
 use Prim.Native.Nat.{ℕ, ◌+◌, ◌-◌, ◌≤◌, ◌<◌, ◌^◌}
 use native.Mathlib.Omega.{arith}
-use lib.ListN.{length, get_or, take, drop, set, replicate}
+use lib.ListN.{length, get_or, take, drop, set, replicate, replicate-append-replicate, length-take}
+use lib.Seq.{take_at, take-take, get_or-append_seam}
 use borrow.Author.Tests.{le-leb}
 use Rattle.octet.specs.Bytes.{between, all_in, part, same, sum_of}
 use Rattle.octet.specs.Places.{high, big_endian}
 use Rattle.octet.specs.Splice.{splice}
 use Rattle.octet.specs.Padded.{padded, text_of}
-use Rattle.octet.proofs.Lists.{between-high, part-add, part-part, same_true, same_of}
+use Rattle.octet.proofs.Lists.{between-high, part-add, part_at, part-part, same_true, same_of}
 use Rattle.value.specs.Value.{is_time}
 use Rattle.value.proofs.Times.{time-is}
-use Rattle.parts.specs.Parts.{Part, Value, text_field, laid}
+use Rattle.parts.specs.Parts.{Part, Text, Number, Raw, Value, Bytes, Count, text_field, laid}
 use Rattle.parts.specs.Relaid.{filled}
-use Rattle.answer.specs.declared.Venue.{Venue}
+use Rattle.parts.proofs.Relaying.{filled-length, filled-short, filled-by}
 use Rattle.parts.proofs.ReadBack.{AllSized, written}
 use Rattle.answer.specs.Numbers.{nine_digits, most_contracts}
 use Rattle.fill.specs.Slot.{Slot, entry_mark, body_width, slot_width, is_fill, is_entry, full_time, most_price}
 use Rattle.fill.specs.Entry.{
   Entry,
-  told_parts,
   entry_parts,
   entry_widths,
   entry_width_of,
@@ -39,6 +39,7 @@ use Rattle.fill.specs.Entry.{
   entry_slot,
   entry_place_of,
   entry_field,
+  time_width,
   trade_of,
   number_of,
   entry_side_of,
@@ -53,26 +54,30 @@ use Rattle.fill.specs.Entry.{
   longest_original,
   entry_lawful,
 }
-use Rattle.fill.specs.Terms.{is_blank}
-use Rattle.fill.specs.Booked.{span_of, IsSlot, slot_lawful}
-use Rattle.fill.proofs.Made.{Made, made-length, part-is, text-is, text-back, high-back, text-lawful, made-front, made-tail, byte_put, time-whole, full-is-time}
+use Rattle.fill.specs.Booked.{slot_lawful}
+use Rattle.fill.proofs.Made.{Made, made-length, part-is, text-is, text-back, high-back, text-lawful, made-rest, byte_put, time-whole, full-is-time}
 
 pub entry-size : sum_of entry_widths ≡ body_width
 entry-size = refl
 
 parts-sized : AllSized entry_parts
-parts-sized = (omega arith, (tt, (tt, (tt, (tt, (omega arith, (tt, (tt, (tt, (tt, (tt, (tt, (tt, (tt, (tt, tt)))))))))))))))
+parts-sized = (omega arith, (tt, (tt, (tt, (tt, (omega arith, (tt, (tt, (tt, tt)))))))))
 
-told-sized : AllSized told_parts
-told-sized = (omega arith, (tt, (tt, (tt, (tt, (omega arith, (tt, (tt, (tt, tt)))))))))
+-- a time with the zero after it
+zero-last : (k : ℕ) → replicate {A = ℕ} (k + 1) 0 ≡ replicate k 0 ++ 0 ∷ []
+zero-last k = sym (replicate-append-replicate k 1 0)
 
--- what follows the parts that are told: zeros
-abbrev padding : List Part
-padding = drop 9 entry_parts
+zero_more : (y : List ℕ) → length y ≤ time_width → filled 22 y ≡ (y ++ replicate (time_width - length y) 0) ++ 0 ∷ []
+zero_more y h =
+    let e : 22 - length y ≡ time_width - length y + 1 = omega arith in
+    filled-short 22 y (omega arith)
+    ∙ ap (λ (k : ℕ). y ++ replicate k 0) e
+    ∙ ap (λ (z : List ℕ). y ++ z) (zero-last (time_width - length y))
+    ∙ sym (append_assoc y (replicate (time_width - length y) 0) (0 ∷ []))
 
-no-values : laid padding [] ≡ replicate 20 0
-unfolding laid
-no-values = refl
+zero-after : (x : List ℕ) → filled 22 (take time_width x) ≡ filled time_width x ++ 0 ∷ []
+zero-after x =
+    zero_more (take time_width x) (omega (arith, length-take time_width x)) ∙ ap (λ (z : List ℕ). z ++ 0 ∷ []) (filled-by time_width x)
 
 module _ (e : Entry) where
   abbrev made : List ℕ
@@ -115,22 +120,51 @@ module _ (e : Entry) where
   pub entry-price-back : e.price < 256 ^ 8 → entry_price_of made ≡ e.price
   entry-price-back h = high-back entry-made 7 (entry_width_of 7) e.price refl h
 
-  -- zeros behind what is told
-  pub entry-normal : (v : Venue) → is_blank (drop (span_of v made) made) ≡ true
-  unfolding entry_body
-  entry-normal v = ap is_blank (made-tail entry_mark told_parts padding (entry_values e) [] told-sized refl ∙ no-values)
+  last-is : entry_field 8 made ≡ filled time_width (full_time e.time) ++ 0 ∷ []
+  last-is = part-is entry-made 8 ∙ zero-after (full_time e.time)
 
-  pub entry-is-slot : (v : Venue) → IsSlot v made
-  entry-is-slot v = record { wide = entry_length; marked = inr refl; normal = entry-normal v }
+  -- the byte after the time
+  pub entry-normal : get_or made (slot_width - 1) 0 ≡ 0
+  entry-normal =
+      let x = filled time_width (full_time e.time) in
+      sym (part_at (entry_place_of 8) 22 time_width made (omega arith))
+      ∙ ap (λ (l : List ℕ). get_or l time_width 0) last-is
+      ∙ ap (λ (n : ℕ). get_or (x ++ 0 ∷ []) n 0) (sym (filled-length time_width (full_time e.time)))
+      ∙ get_or-append_seam x 0 [] 0
 
   pub entry-time-back : (length e.time ≡ 17) ⊎ (length e.time ≡ 21) → entry_time_of made ≡ full_time e.time
-  entry-time-back h = part-is entry-made 8 ∙ time-whole e.time h
+  entry-time-back h =
+      let x = full_time e.time in
+      sym (take-take time_width 22 (drop (entry_place_of 8) made) (omega arith))
+      ∙ ap (take time_width) last-is
+      ∙ take_at (filled time_width x) (0 ∷ []) time_width (filled-length time_width x)
+      ∙ time-whole e.time h
 
 -- ---- made part by part
 
-made-slot : (e : Entry) → written (entry_mark ∷ replicate body_width 0) 1 told_parts (entry_values e) ≡ entry_slot e
-unfolding entry_body
-made-slot e = made-front entry_mark told_parts padding (entry_values e) [] 20 told-sized refl no-values
+-- the parts as they are written: the zero after the time stands there already
+abbrev put_parts : List Part
+put_parts = Text 21 ∷ Number 4 ∷ Number 1 ∷ Number 1 ∷ Number 1 ∷ Text 31 ∷ Number 4 ∷ Number 8 ∷ Raw time_width ∷ []
+
+abbrev put_values : Entry → List Value
+put_values e =
+    Bytes e.trade ∷ Count e.number ∷ Count e.side ∷ Count e.transaction ∷ Count e.correction ∷ Bytes e.exec ∷ Count e.shares ∷ Count e.price
+    ∷ Bytes (full_time e.time) ∷ []
+
+-- the parts up to the time, and any bytes for it
+abbrev up_to : Entry → List ℕ → List ℕ
+up_to e l =
+    text_field 21 e.trade ++ (high 4 e.number ++ (high 1 e.side ++ (high 1 e.transaction ++ (high 1 e.correction
+    ++ (text_field 31 e.exec ++ (high 4 e.shares ++ (high 8 e.price ++ l)))))))
+
+made-slot : (e : Entry) → written (entry_mark ∷ replicate body_width 0) 1 put_parts (put_values e) ≡ entry_slot e
+unfolding entry_body laid
+made-slot e =
+    let x = full_time e.time in
+    let sized : AllSized put_parts = (omega arith, (tt, (tt, (tt, (tt, (omega arith, (tt, (tt, (tt, tt))))))))) in
+    let last : filled time_width x ++ 0 ∷ [] ≡ filled 22 (take time_width x) ++ [] = sym (zero-after x) ∙ sym (append-nil (filled 22 (take time_width x))) in
+    made-rest entry_mark put_parts (put_values e) (replicate body_width 0) sized (omega arith)
+    ∙ simp append_assoc (ap (λ (l : List ℕ). entry_mark ∷ up_to e l) last)
 
 -- the mark and the nine parts, one after another
 pub entry-put : (e : Entry) (a b d f g h i j k : List ℕ) → e.side < 256 → e.transaction < 256 → e.correction < 256
@@ -139,7 +173,7 @@ pub entry-put : (e : Entry) (a b d f g h i j k : List ℕ) → e.side < 256 → 
     → d ≡ set b (entry_place_of 2) e.side → f ≡ set d (entry_place_of 3) e.transaction → g ≡ set f (entry_place_of 4) e.correction
     → h ≡ splice g (entry_place_of 5) (text_field (entry_width_of 5) e.exec) → i ≡ splice h (entry_place_of 6) (high (entry_width_of 6) e.shares)
     → j ≡ splice i (entry_place_of 7) (high (entry_width_of 7) e.price)
-    → k ≡ splice j (entry_place_of 8) (filled (entry_width_of 8) (full_time e.time)) → k ≡ entry_slot e
+    → k ≡ splice j (entry_place_of 8) (filled time_width (full_time e.time)) → k ≡ entry_slot e
 entry-put e a b d f g h i j k ms mt mc ea eb ed ef eg eh ei ej ek =
     let es = byte_put b (entry_place_of 2) e.side ms in
     let et = byte_put d (entry_place_of 3) e.transaction mt in

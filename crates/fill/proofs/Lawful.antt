@@ -2,8 +2,7 @@
 --     texts-by, sums_by, lawful-by     a fill's definition, test by test; names-by, codes-by, entry-by     an entry's
 --     no-entry, no-fill     no slot is both
 --     lawful-entry, lawful-fill     what is asked of a slot, by its first byte
---     lawful_both     what is asked of a fill: of its common parts, and of what it says of its option
---     lawful-parts     what is asked of its common parts, one by one
+--     lawful-parts     what is asked of a fill, one by one
 --     lawful-sums     what the sums of a lawful fill are
 use mathlib.Core.Path.{◌≡◌, ap}
 use mathlib.Core.Bool.{Bool, true, false, ◌&&◌}
@@ -34,8 +33,6 @@ use Rattle.fill.specs.Slot.{
   texts_lawful,
   sums_lawful,
   most_price,
-  common_lawful,
-  terms_lawful,
   fill_lawful,
 }
 use Rattle.fill.specs.Entry.{
@@ -65,8 +62,8 @@ module _ (s : Slot) where
   sums_by ea eb ed ee = cc
 
   pub lawful-by : {a b d e f : Bool} → texts_lawful s ≡ a → between 1 2 (side_of s) ≡ b → sums_lawful s ≡ d → leb (price_of s) most_price ≡ e → is_time (time_of s) ≡ f
-      → a && b && d && e && f ≡ common_lawful s
-  unfolding common_lawful
+      → a && b && d && e && f ≡ fill_lawful s
+  unfolding fill_lawful
   lawful-by ea eb ed ee ef = cc
 
   pub names-by : {a b d : Bool} → text_lawful (trade_of s) ≡ a → text_lawful (original_of s) ≡ b → leb (get_or (original_of s) 0 0) longest_original ≡ d → a && b && d ≡ names_lawful s
@@ -96,17 +93,12 @@ module _ (s : Slot) where
   unfolding slot_lawful
   lawful-fill e = rw e
 
--- what is asked of a fill
-pub lawful_both : (s : Slot) → fill_lawful s ≡ true → (common_lawful s ≡ true) × (terms_lawful s ≡ true)
-unfolding fill_lawful
-lawful_both s e = and_both (common_lawful s) (terms_lawful s) e
-
--- of its common parts, one by one
+-- what is asked of a fill, one by one
 pub lawful-parts : (s : Slot) → fill_lawful s ≡ true
     → (texts_lawful s ≡ true) × (between 1 2 (side_of s) ≡ true) × (sums_lawful s ≡ true) × (leb (price_of s) most_price ≡ true) × (is_time (time_of s) ≡ true)
-unfolding common_lawful
+unfolding fill_lawful
 lawful-parts s e =
-    let four = and_both (texts_lawful s && between 1 2 (side_of s) && sums_lawful s && leb (price_of s) most_price) (is_time (time_of s)) (lawful_both s e).0 in
+    let four = and_both (texts_lawful s && between 1 2 (side_of s) && sums_lawful s && leb (price_of s) most_price) (is_time (time_of s)) e in
     let three = and_both (texts_lawful s && between 1 2 (side_of s) && sums_lawful s) (leb (price_of s) most_price) four.0 in
     let two = and_both (texts_lawful s && between 1 2 (side_of s)) (sums_lawful s) three.0 in
     let one = and_both (texts_lawful s) (between 1 2 (side_of s)) two.0 in

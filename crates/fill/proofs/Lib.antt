@@ -1,5 +1,4 @@
 pub mod Made
-pub mod Said
 pub mod Fields
 pub mod Entry
 pub mod Lines

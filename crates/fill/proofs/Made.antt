@@ -3,8 +3,7 @@
 --     part-is     part i of the slot is part i of the layout: one law for all of them
 --     text-back, high-back     a text and a number that fit are read back
 --     text-lawful     a text that fits, of bytes that one may have, is lawful
---     made-rest     the parts, written one after another behind the first byte; made-front: where what follows them is zeros
---     made-tail     what stands behind the first parts
+--     made-rest     the parts, written one after another behind the first byte
 --     text-put, byte_put, time-other, time-seventeen, time-same     how the code writes a text, a number of one byte, and a time
 use mathlib.Core.Path.{◌≡◌, refl, sym, ap, ◌∙◌}
 use mathlib.Core.List.{List, [], ◌∷◌, ◌++◌}
@@ -14,7 +13,7 @@ use Prim.Native.Nat.{ℕ, zero, suc, ◌+◌, ◌-◌, ◌≤◌, ◌<◌, ◌^�
 use native.Mathlib.Nat.{zero-add, pow-zero, div-one}
 use native.Mathlib.Omega.{arith}
 use lib.ListN.{length, get_or, take, drop, set, replicate, replicate-append-replicate, length-append, length-take, length-replicate, get_or-eq_default}
-use lib.Seq.{take_all, take_at, drop_at}
+use lib.Seq.{take_all, take_at}
 use lib.Dec.{eqb}
 use borrow.Author.Tests.{eq-eqb, ne_eqb, eqb-true}
 use Rattle.octet.specs.Bytes.{bytes_of, all_in, part, sum_of}
@@ -30,7 +29,7 @@ use Rattle.value.proofs.Times.{time-filled}
 use Rattle.parts.specs.Parts.{Part, Value, widths_of, size_of, text_field, laid}
 use Rattle.parts.specs.Relaid.{filled}
 use Rattle.parts.proofs.Relaying.{filled-same}
-use Rattle.parts.proofs.ReadBack.{AllSized, each, laid-length, laid-join, laid-part, written, written-laid}
+use Rattle.parts.proofs.ReadBack.{AllSized, each, laid-length, laid-part, written, written-laid}
 use Rattle.fill.specs.Slot.{full_time, text_lawful}
 
 -- a slot with that first byte, of those parts with those values
@@ -82,23 +81,6 @@ made-rest mark ps vs rest z h =
     written-laid m 1 ps vs z (omega arith)
     ∙ splice-in m 1 b (omega arith)
     ∙ ap (λ (k : ℕ). (mark ∷ b) ++ drop k m) e
-
--- the same over zeros, which are what the parts behind them have
-pub made-front : (mark : ℕ) (ps qs : List Part) (vs ws : List Value) (k : ℕ) → AllSized ps → length ps ≡ length vs → laid qs ws ≡ replicate k 0
-    → written (mark ∷ replicate (size_of ps + k) 0) 1 ps vs ≡ mark ∷ laid (ps ++ qs) (vs ++ ws)
-made-front mark ps qs vs ws k z l e =
-    let n = size_of ps in
-    let zeros : List ℕ = replicate (n + k) 0 in
-    made-rest mark ps vs zeros z (omega (arith, length-replicate {A = ℕ} (n + k) 0))
-    ∙ ap (λ (x : List ℕ). mark ∷ laid ps vs ++ drop n x) (sym (replicate-append-replicate n k 0))
-    ∙ ap (λ (x : List ℕ). mark ∷ laid ps vs ++ x) (drop_at (replicate n 0) (replicate k 0) n (length-replicate n 0))
-    ∙ ap (λ (x : List ℕ). mark ∷ laid ps vs ++ x) (sym e)
-    ∙ ap (λ (x : List ℕ). mark ∷ x) (sym (laid-join ps qs vs ws l))
-
-pub made-tail : (mark : ℕ) (ps qs : List Part) (vs ws : List Value) → AllSized ps → length ps ≡ length vs
-    → drop (suc (size_of ps)) (mark ∷ laid (ps ++ qs) (vs ++ ws)) ≡ laid qs ws
-made-tail mark ps qs vs ws z l =
-    ap (drop (size_of ps)) (laid-join ps qs vs ws l) ∙ drop_at (laid ps vs) (laid qs ws) (size_of ps) (laid-length ps vs z)
 
 -- a number of one byte, written and read
 one_byte : (n : ℕ) → n < 256 → high 1 n ≡ n ∷ []

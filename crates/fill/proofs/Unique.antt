@@ -12,7 +12,6 @@ use Rattle.fill.specs.contracts.shares_of as shares_of
 use Rattle.fill.specs.contracts.price_of as price-of
 use Rattle.fill.specs.contracts.cum_of as cum-of
 use Rattle.fill.specs.contracts.slot_with as slot-with
-use Rattle.fill.specs.contracts.terms.put_terms as put-terms
 use Rattle.fill.specs.contracts.is_lawful as is_lawful
 use Rattle.fill.specs.contracts.line_least as line-least
 use Rattle.fill.specs.contracts.write_line as write-line
@@ -61,6 +60,3 @@ line-least-one M 𝓤 𝓛 mem run κs a g = (_, λ r e. alone 𝓤)
 
 pub write-line-one : Once write-line.ended (λ M 𝓤. write-line.clauses 𝓤) (λ κs r e. r & e.1.1.0.now)
 write-line-one M 𝓤 𝓛 mem run κs a g = (_, λ r e. joined 𝓤 _ _ (alone 𝓤) (first 𝓤 _ _))
-
-pub put-terms-one : Once put-terms.ended (λ M 𝓤. put-terms.clauses 𝓤) (λ κs r e. e.0.now)
-put-terms-one M 𝓤 𝓛 mem run κs a g = (_, λ r e. alone 𝓤)

@@ -35,14 +35,10 @@ entry_of trade number side transaction correction exec shares price time =
       time = time;
     }
 
--- ---- the body: its parts, as in a note of kind C after E and O
+-- ---- the body: its parts, as in a note of kind C after E and O; the time has what is left of a slot's width, one zero
 
-abbrev pub told_parts : List Part
-told_parts = Text 21 ∷ Number 4 ∷ Number 1 ∷ Number 1 ∷ Number 1 ∷ Text 31 ∷ Number 4 ∷ Number 8 ∷ Raw 21 ∷ []
-
--- and what is left of a slot's width, zeros, in as many parts as a fill has
 abbrev pub entry_parts : List Part
-entry_parts = told_parts ++ Raw 20 ∷ Raw 0 ∷ Raw 0 ∷ Raw 0 ∷ Raw 0 ∷ Raw 0 ∷ []
+entry_parts = Text 21 ∷ Number 4 ∷ Number 1 ∷ Number 1 ∷ Number 1 ∷ Text 31 ∷ Number 4 ∷ Number 8 ∷ Raw 22 ∷ []
 
 abbrev pub entry_widths : List ℕ
 entry_widths = widths_of entry_parts
@@ -50,11 +46,14 @@ entry_widths = widths_of entry_parts
 abbrev pub entry_width_of : ℕ → ℕ
 entry_width_of i = get_or entry_widths i 0
 
--- what the message says for each part
+abbrev pub time_width : ℕ
+time_width = 21
+
+-- what the message says for each part; a time that is too long is cut
 abbrev pub entry_values : Entry → List Value
 entry_values e =
     Bytes e.trade ∷ Count e.number ∷ Count e.side ∷ Count e.transaction ∷ Count e.correction ∷ Bytes e.exec ∷ Count e.shares ∷ Count e.price
-    ∷ Bytes (full_time e.time) ∷ []
+    ∷ Bytes (take time_width (full_time e.time)) ∷ []
 
 unfoldable pub entry_body : Entry → List ℕ
 entry_body e = laid entry_parts (entry_values e)
@@ -95,11 +94,7 @@ abbrev pub entry_price_of : Slot → ℕ
 entry_price_of s = big_endian (entry_field 7 s)
 
 abbrev pub entry_time_of : Slot → List ℕ
-entry_time_of s = entry_field 8 s
-
--- the bytes that an entry tells, the first one with them
-abbrev pub told_width : ℕ
-told_width = entry_place_of 9
+entry_time_of s = part (entry_place_of 8) time_width s
 
 -- "TradeID, CorrectionNum, Side and ExecTransType together say whether we have it already": the first four parts, as they stand one after another. What an entry keeps beside them
 -- are its contents

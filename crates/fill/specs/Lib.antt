@@ -1,4 +1,3 @@
-pub mod Terms
 pub mod Slot
 pub mod Entry
 pub mod Booked

@@ -1,6 +1,6 @@
 -- A slot is a byte that says what it is, a fill or an entry, and its body. Of a fill: its parts, when it is lawful, and its line of the listing. Entry has the same of an entry,
 -- and Booked what is said of any slot.
-use Rattle.std.specs.Prelude.{ℕ, ◌+◌, List, [], ◌∷◌, ◌++◌, Bool, cond, ◌&&◌, ◌||◌, length, get_or, take, drop, leb, eqb}
+use Rattle.std.specs.Prelude.{ℕ, ◌+◌, List, [], ◌∷◌, ◌++◌, Bool, cond, ◌&&◌, length, get_or, take, drop, leb, eqb}
 use Rattle.octet.specs.Bytes.{bytes_of, between, part, sum_of}
 use Rattle.octet.specs.Places.{big_endian}
 use Rattle.octet.specs.Padded.{padded_ok, text_of}
@@ -8,13 +8,12 @@ use Rattle.parts.specs.Parts.{Part, Text, Number, Raw, Value, Bytes, Count, widt
 use Rattle.answer.specs.declared.Setup.{Setup}
 use Rattle.answer.specs.Numbers.{most_contracts}
 use Rattle.text.specs.Decimal.{decimal, price_text}
-use Rattle.value.specs.Value.{is_time, is_code, origins, put_or_call}
-use Rattle.fill.specs.Terms.{Terms, no_terms, term_parts, term_values, is_blank, said_in, priced_in, is_month, is_day_of, month_in, is_strike}
+use Rattle.value.specs.Value.{is_time}
 
 abbrev pub Slot : Type 0
 Slot = List ℕ
 
--- what a report says of a fill, and of its option
+-- what a report says of a fill
 pub record Fill : Type 0 where
   pub exec : List ℕ
   pub order : List ℕ
@@ -25,24 +24,16 @@ pub record Fill : Type 0 where
   pub price : ℕ
   pub cum : ℕ
   pub time : List ℕ
-  pub terms : Terms
 
-abbrev pub fill_of : List ℕ → List ℕ → List ℕ → ℕ → ℕ → ℕ → ℕ → ℕ → List ℕ → Terms → Fill
-fill_of exec order symbol side quantity shares price cum time terms =
-    record { exec = exec; order = order; symbol = symbol; side = side; quantity = quantity; shares = shares; price = price; cum = cum; time = time; terms = terms }
+abbrev pub fill_of : List ℕ → List ℕ → List ℕ → ℕ → ℕ → ℕ → ℕ → ℕ → List ℕ → Fill
+fill_of exec order symbol side quantity shares price cum time =
+    record { exec = exec; order = order; symbol = symbol; side = side; quantity = quantity; shares = shares; price = price; cum = cum; time = time }
 
--- the same fill, with that said of its option
-abbrev pub termed : Terms → Fill → Fill
-termed t f = fill_of f.exec f.order f.symbol f.side f.quantity f.shares f.price f.cum f.time t
+-- ---- the body: "ExecID 21, OrderID 21, symbol 9, side 1 (a number), OrderQty 4, LastShares 4, price 8, CumQty 4, time (60) 21"
 
--- ---- the body: "ExecID 21, OrderID 21, symbol 9, side 1 (a number), OrderQty 4, LastShares 4, price 8, CumQty 4, time (60) 21", and behind them what is said of its option
-
--- the parts that are common to all fills; "texts a length byte and zero padding", "The time has no length byte"
-abbrev pub common_parts : List Part
-common_parts = Text 21 ∷ Text 21 ∷ Text 9 ∷ Number 1 ∷ Number 4 ∷ Number 4 ∷ Number 8 ∷ Number 4 ∷ Raw 21 ∷ []
-
+-- its parts; "texts a length byte and zero padding", "The time has no length byte"
 abbrev pub slot_parts : List Part
-slot_parts = common_parts ++ term_parts
+slot_parts = Text 21 ∷ Text 21 ∷ Text 9 ∷ Number 1 ∷ Number 4 ∷ Number 4 ∷ Number 8 ∷ Number 4 ∷ Raw 21 ∷ []
 
 abbrev pub widths : List ℕ
 widths = widths_of slot_parts
@@ -61,13 +52,10 @@ abbrev pub full_time : List ℕ → List ℕ
 full_time t = cond (eqb (length t) 17) (t ++ bytes_of ".000") t
 
 -- what a report says for each part
-abbrev pub common_values : Fill → List Value
-common_values f =
+abbrev pub values_of : Fill → List Value
+values_of f =
     Bytes f.exec ∷ Bytes f.order ∷ Bytes f.symbol ∷ Count f.side ∷ Count f.quantity ∷ Count f.shares ∷ Count f.price ∷ Count f.cum
     ∷ Bytes (full_time f.time) ∷ []
-
-abbrev pub values_of : Fill → List Value
-values_of f = common_values f ++ term_values f.terms
 
 -- a text that is too long is cut
 unfoldable pub body_of : Fill → List ℕ
@@ -138,38 +126,6 @@ cum_of s = big_endian (field 7 s)
 abbrev pub time_of : Slot → List ℕ
 time_of s = field 8 s
 
--- what it says of its option
-abbrev pub origin_of : Slot → List ℕ
-origin_of s = field 9 s
-
-abbrev pub month_of : Slot → List ℕ
-month_of s = field 10 s
-
-abbrev pub day_of : Slot → List ℕ
-day_of s = field 11 s
-
-abbrev pub put_call_of : Slot → List ℕ
-put_call_of s = field 12 s
-
-abbrev pub flag_of : Slot → ℕ
-flag_of s = big_endian (field 13 s)
-
-abbrev pub strike_of : Slot → ℕ
-strike_of s = big_endian (field 14 s)
-
-abbrev pub terms_of : Slot → Terms
-terms_of s = record {
-  origin = said_in (origin_of s);
-  month = said_in (month_of s);
-  day = said_in (day_of s);
-  put_call = said_in (put_call_of s);
-  strike = priced_in (flag_of s) (strike_of s);
-}
-
--- the bytes that all fills have in common, the first one with them
-abbrev pub common_width : ℕ
-common_width = place_of 9
-
 -- ---- a body that is so formed, with values that a report can have
 
 abbrev pub text_lawful : List ℕ → Bool
@@ -185,22 +141,9 @@ sums_lawful s = leb 1 (shares_of s) && leb (shares_of s) (cum_of s) && leb (cum_
 abbrev pub most_price : ℕ
 most_price = 99999999999
 
--- what is said of its option: "each none or in the row's form and range"
-abbrev pub expiry_lawful : Slot → Bool
-expiry_lawful s = (is_blank (month_of s) || is_month (month_of s)) && (is_blank (day_of s) || is_day_of (month_in (month_of s)) (day_of s))
-
-unfoldable pub terms_lawful : Slot → Bool
-terms_lawful s =
-    (is_blank (origin_of s) || is_code origins (origin_of s)) && expiry_lawful s && (is_blank (put_call_of s) || is_code put_or_call (put_call_of s))
-    && is_strike most_price (flag_of s) (strike_of s)
-
--- the common parts of a fill, and all of it
-unfoldable pub common_lawful : Slot → Bool
-common_lawful s =
-    texts_lawful s && between 1 2 (side_of s) && sums_lawful s && leb (price_of s) most_price && is_time (time_of s)
-
 unfoldable pub fill_lawful : Slot → Bool
-fill_lawful s = common_lawful s && terms_lawful s
+fill_lawful s =
+    texts_lawful s && between 1 2 (side_of s) && sums_lawful s && leb (price_of s) most_price && is_time (time_of s)
 
 -- ---- "number, ExecID, OrderID, symbol, side, LastShares, price with four decimals, time, single spaces"
 

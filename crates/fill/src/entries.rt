@@ -5,14 +5,14 @@ ghost use Rattle.fill.specs.Entry.{entry_of, entry_slot, trade_of, number_of, en
 ghost use Rattle.fill.specs.Entry.{entry_shares_of, entry_price_of, entry_time_of, key_of, names_lawful, codes_lawful, entry_lawful, entry_line};
 
 use super::{
-    IS_ENTRY, MOST_PRICE, PARTS, SLOT, TIME, is_text, number_word, put_text, put_time, text_word,
+    IS_ENTRY, MOST_PRICE, SLOT, TIME, is_text, number_word, put_text, put_time, text_word,
 };
 use answer::{MOST_CONTRACTS, NINE_DIGITS};
 use octet::part;
 use text::Text;
 
-// "TradeID 21, CorrectionNum 4, side 1, ExecTransType 1, CorrectionType 1, ExecID 31, LastShares 4, price 8, time (60) 21", and zeros to the slot's width.
-pub const ENTRY_WIDTHS: [u8; PARTS] = [21, 4, 1, 1, 1, 31, 4, 8, 21, 20, 0, 0, 0, 0, 0];
+// "TradeID 21, CorrectionNum 4, side 1, ExecTransType 1, CorrectionType 1, ExecID 31, LastShares 4, price 8, time (60)", and a zero to the slot's width.
+pub const ENTRY_WIDTHS: [u8; 9] = [21, 4, 1, 1, 1, 31, 4, 8, 22];
 
 const TRADE: usize = 21;
 

@@ -1,6 +1,5 @@
 // A slot is a byte that says what it is, a fill or an entry, and its body: here the fill's, as the F note has it after E and O, and what is said of any slot.
 mod entries; // the entry's
-mod terms; // what a fill says of its option
 
 ghost use Rattle.std.specs.Prelude.{◌≡◌, cond, ◌++◌, ◌+◌, ◌≤◌, length};
 ghost use Rattle.octet.specs.Bytes.{bytes_of};
@@ -12,22 +11,16 @@ ghost use Rattle.text.specs.Decimal.{decimal};
 ghost use Rattle.text.specs.Writing.{empty, puts};
 ghost use Rattle.fill.specs.Slot.{fill_of, width_of, full_time, body_of, slot_of, is_fill, is_entry};
 ghost use Rattle.fill.specs.Slot.{exec_of, order_of, symbol_of, side_of, quantity_of, shares_of, price_of, cum_of, time_of};
-ghost use Rattle.fill.specs.Slot.{text_lawful, texts_lawful, sums_lawful, common_lawful, fill_lawful, line_room, line_least, names_of, figures_of, fill_line};
-ghost use Rattle.fill.specs.Terms.{no_terms};
+ghost use Rattle.fill.specs.Slot.{text_lawful, texts_lawful, sums_lawful, fill_lawful, line_room, line_least, names_of, figures_of, fill_line};
 ghost use Rattle.fill.specs.Booked.{slot_lawful, line_of};
 
 use answer::{MOST_CONTRACTS, Setup};
 pub use entries::{ENTRY_WIDTHS, entry_with, key_of};
 use octet::part;
-pub use terms::put_terms;
 use text::Text;
 
-// A slot has so many parts, whatever it is of.
-pub const PARTS: usize = 15;
-
-// "ExecID 21, OrderID 21, symbol 9, side 1 (a number), OrderQty 4, LastShares 4, price 8, CumQty 4, time (60) 21"; and of its option "origin 1, month 6,
-// day 2, put or call 1, strike 9", whose first byte says that there is one.
-pub const SLOT_WIDTHS: [u8; PARTS] = [21, 21, 9, 1, 4, 4, 8, 4, 21, 1, 6, 2, 1, 1, 8];
+// "ExecID 21, OrderID 21, symbol 9, side 1 (a number), OrderQty 4, LastShares 4, price 8, CumQty 4, time (60) 21".
+pub const SLOT_WIDTHS: [u8; 9] = [21, 21, 9, 1, 4, 4, 8, 4, 21];
 
 pub const ID: usize = 21;
 
@@ -54,20 +47,8 @@ const CUM_AT: usize = PRICE_AT + 8;
 
 const TIME_AT: usize = CUM_AT + 4;
 
-const ORIGIN_AT: usize = TIME_AT + TIME;
-
-const MONTH_AT: usize = ORIGIN_AT + 1;
-
-const DAY_AT: usize = MONTH_AT + 6;
-
-const PUT_CALL_AT: usize = DAY_AT + 2;
-
-const FLAG_AT: usize = PUT_CALL_AT + 1;
-
-const STRIKE_AT: usize = FLAG_AT + 1;
-
 // How many bytes a slot has.
-pub const SLOT: usize = STRIKE_AT + 8;
+pub const SLOT: usize = TIME_AT + TIME;
 
 // The first byte of a slot, where it is a fill, and where it is an entry.
 pub const IS_FILL: u8 = 1;
@@ -173,7 +154,7 @@ fn put_time(dst: &mut [u8], at: usize, t: &[u8])
     octet::copy_into(dst, at, &time_field(t));
 }
 
-// The slot of a fill of whose option nothing is said.
+// The slot of a fill.
 pub fn slot_with(
     exec: &[u8],
     order: &[u8],
@@ -185,7 +166,7 @@ pub fn slot_with(
     cum: u32,
     time: &[u8],
 ) -> [u8; SLOT]
-    ensures { result ≡ slot_of (body_of (fill_of exec.now order.now symbol.now side quantity shares price cum time.now no_terms)) }
+    ensures { result ≡ slot_of (body_of (fill_of exec.now order.now symbol.now side quantity shares price cum time.now)) }
 {
     let mut slot = [0u8; SLOT];
     slot[0] = IS_FILL;
@@ -242,9 +223,9 @@ fn sums_lawful(s: &[u8]) -> bool
     quantity <= MOST_CONTRACTS
 }
 
-// Whether the parts that all fills have are so formed, with values that a report can have.
-fn common_lawful(s: &[u8]) -> bool
-    ensures { result ≡ common_lawful s.now }
+// Whether a fill's body is so formed, with values that a report can have.
+fn is_lawful_fill(s: &[u8]) -> bool
+    ensures { result ≡ fill_lawful s.now }
 {
     if !texts_lawful(s) {
         return false;
@@ -263,16 +244,6 @@ fn common_lawful(s: &[u8]) -> bool
         return false;
     }
     value::is_time(time_of(s))
-}
-
-// Whether all of a fill's body is, what it says of its option with it.
-fn is_lawful_fill(s: &[u8]) -> bool
-    ensures { result ≡ fill_lawful s.now }
-{
-    if !common_lawful(s) {
-        return false;
-    }
-    terms::terms_lawful(s)
 }
 
 // Whether a slot is lawful: a fill, or an entry.

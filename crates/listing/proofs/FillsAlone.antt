@@ -17,9 +17,8 @@ use Rattle.book.specs.Place.{sum_where}
 use Rattle.book.specs.Orders.{count_where, fills_of, entries_of}
 use Rattle.note.specs.Kept.{Kept, waiting}
 use Rattle.note.proofs.Keeping.{AllSlots, entries-all}
-use Rattle.restart.specs.Restart.{Again, restart_any}
-use Rattle.restart.proofs.Going.{GivenIn}
-use Rattle.restart.proofs.Either.{any-given}
+use Rattle.restart.specs.Restart.{Again, restart}
+use Rattle.restart.proofs.Going.{GivenIn, restart-given}
 use Rattle.listing.specs.Listing.{contracts, lines_from, first_of, first_line, waiting_page, longest_file, listing}
 use Rattle.listing.proofs.Pages.{listing-counts}
 
@@ -62,10 +61,10 @@ all-fills [] h e = tt
 all-fills (s ∷ ss) h e =
     (⊎_elim (λ f. f) (λ y. absurd (omega (arith, cond-true {A = ℕ} (is_entry s) 1 0 y))) h.0.marked, all-fills ss h.1 (omega arith))
 
-pub no-entries-listed : (notes : List ℕ) (q : Kept) (whole : ℕ) → length notes ≤ longest_file → restart_any notes ≡ Again q whole → q.load.entries ≡ 0
+pub no-entries-listed : (notes : List ℕ) (q : Kept) (whole : ℕ) → length notes ≤ longest_file → restart notes ≡ Again q whole → q.load.entries ≡ 0
     → listing notes ≡ first_of (length (waiting q)) (contracts (waiting q)) ++ fill_lines_from (q.acked + 1) (waiting q)
 no-entries-listed notes q whole h e z =
-    let g = (subst (GivenIn (length notes)) e (any-given notes)).sound in
+    let g = (subst (GivenIn (length notes)) e (restart-given notes)).sound in
     listing-counts notes q whole h e ∙ no-entries q.acked q.slots (all-fills q.slots g.each (sym (entries-all q g) ∙ z))
 
 -- ---- the first line

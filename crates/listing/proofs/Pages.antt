@@ -24,6 +24,9 @@ use Rattle.fill.specs.Slot.{
   side_of,
   shares_of,
   price_of,
+  time_of,
+  texts_lawful,
+  sums_lawful,
   most_price,
   fill_lawful,
   fill_line,
@@ -41,9 +44,9 @@ use Rattle.fill.specs.Entry.{
   entry_lawful,
   entry_line,
 }
-use Rattle.fill.specs.Booked.{AnySlot, slot_lawful, line_of}
+use Rattle.fill.specs.Booked.{IsSlot, slot_lawful, line_of}
 use Rattle.answer.specs.Numbers.{nine_digits, most_contracts, largest}
-use Rattle.fill.proofs.Lawful.{lawful-parts, lawful-sums, lawful-fill, lawful-entry, no-entry}
+use Rattle.fill.proofs.Lawful.{lawful-sums, lawful-fill, lawful-entry, no-entry}
 use Rattle.fill.proofs.Lines.{fill-digits, entry-digits, line-fill, line-entry}
 use Rattle.book.specs.Memory.{most_slots, slots_in, slot_at}
 use Rattle.book.specs.Place.{most_fills, sum_where}
@@ -53,21 +56,23 @@ use Rattle.book.proofs.Regions.{slots_length, slots-step, slots_end}
 use Rattle.book.proofs.Counts.{count_most, count-split}
 use Rattle.note.specs.Kept.{Kept, waiting}
 use Rattle.note.proofs.Keeping.{AllSlots, AllLawful, fills-all, entries-all}
-use Rattle.restart.specs.Restart.{Outcome, Again, Unlawful, restart_any, counts_of, told, book_after, HasDay}
+use Rattle.restart.specs.Restart.{Outcome, Again, Unlawful, restart, counts_of, told, book_after, HasDay}
 use Rattle.restart.specs.declared.Counts.{Counts}
 use Rattle.restart.specs.declared.Restarted.TheVariants as restarted
 use Rattle.text.specs.declared.Text.{Text}
 use Rattle.text.specs.Writing.{empty, puts, held}
 use Rattle.text.proofs.Puts.{puts-puts, held-short}
-use Rattle.restart.proofs.Going.{GivenIn}
-use Rattle.restart.proofs.Either.{any-given}
+use Rattle.restart.proofs.Going.{GivenIn, restart-given}
 use Rattle.listing.specs.Listing.{contracts, lines_from, first_of, first_line, damaged, waiting_page, printed, longest_file, is_too_long, too_long, listing, book_listed, lines_in}
 
 -- ---- how long a line is: that of a lawful fill has at most 99 bytes, that of a lawful entry at most 41
 fill-figures : (s : Slot) → fill_lawful s ≡ true → (side_of s ≤ 2) × (price_of s ≤ most_price)
+unfolding fill_lawful
 fill-figures s t =
-    let p = lawful-parts s t in
-    (between-high 1 2 (side_of s) p.1, leb-true (price_of s) most_price p.3)
+    let a = and_left (texts_lawful s && between 1 2 (side_of s) && sums_lawful s && leb (price_of s) most_price) (is_time (time_of s)) t in
+    let b = and_both (texts_lawful s && between 1 2 (side_of s) && sums_lawful s) (leb (price_of s) most_price) a in
+    let d = and_left (texts_lawful s && between 1 2 (side_of s)) (sums_lawful s) b.0 in
+    (between-high 1 2 (side_of s) (and_right (texts_lawful s) (between 1 2 (side_of s)) d), leb-true (price_of s) most_price b.1)
 
 pub lawful-shares : (s : Slot) → fill_lawful s ≡ true → shares_of s ≤ most_contracts
 lawful-shares s t =
@@ -119,7 +124,7 @@ pub line-most : (n : ℕ) (s : Slot) → n < 1000 → slot_lawful s ≡ true →
 line-most n s h t =
     ⊎_elim (λ e. omega (arith, line-of-entry n s h t e)) (λ e. line-of-fill n s h t e) (bool_case (is_entry s))
 
-line-by-kind : (n : ℕ) (s : Slot) → n < 1000 → AnySlot s → slot_lawful s ≡ true → length (line_of n s) ≤ 99 * cond (is_fill s) 1 0 + 41 * cond (is_entry s) 1 0
+line-by-kind : (n : ℕ) (s : Slot) → n < 1000 → IsSlot s → slot_lawful s ≡ true → length (line_of n s) ≤ 99 * cond (is_fill s) 1 0 + 41 * cond (is_entry s) 1 0
 line-by-kind n s h i t =
     ⊎_elim
     (λ f. omega (arith, cond-true {A = ℕ} (is_fill s) 1 0 f, line-of-fill n s h t (no-entry s f)))
@@ -181,19 +186,19 @@ unfolding listing
 listing-most notes =
     of-cond (λ (l : List ℕ). length l ≤ longest_file) (is_too_long notes)
     (λ e. omega arith)
-    (λ e. printed-most (length notes) (restart_any notes) (ltb-false longest_file (length notes) e) (any-given notes))
+    (λ e. printed-most (length notes) (restart notes) (ltb-false longest_file (length notes) e) (restart-given notes))
 
 -- ---- which listing it is
 pub listing-long : (notes : List ℕ) → longest_file < length notes → listing notes ≡ too_long
 unfolding listing
-listing-long notes h = cond-true (is_too_long notes) too_long (printed (restart_any notes)) (lt-ltb longest_file (length notes) h)
+listing-long notes h = cond-true (is_too_long notes) too_long (printed (restart notes)) (lt-ltb longest_file (length notes) h)
 
-pub listing-is : (notes : List ℕ) → length notes ≤ longest_file → listing notes ≡ printed (restart_any notes)
+pub listing-is : (notes : List ℕ) → length notes ≤ longest_file → listing notes ≡ printed (restart notes)
 unfolding listing
-listing-is notes h = cond-false (is_too_long notes) too_long (printed (restart_any notes)) (le-ltb longest_file (length notes) h)
+listing-is notes h = cond-false (is_too_long notes) too_long (printed (restart notes)) (le-ltb longest_file (length notes) h)
 
 -- the first line counts the waiting fills and their contracts, and the lines of all that wait follow
-pub listing-counts : (notes : List ℕ) (q : Kept) (whole : ℕ) → length notes ≤ longest_file → restart_any notes ≡ Again q whole
+pub listing-counts : (notes : List ℕ) (q : Kept) (whole : ℕ) → length notes ≤ longest_file → restart notes ≡ Again q whole
     → listing notes ≡ first_of (fills_of (waiting q)) (contracts (waiting q)) ++ lines_from (q.acked + 1) (waiting q)
 listing-counts notes q whole h e = listing-is notes h ∙ ap printed e
 
@@ -353,13 +358,13 @@ damaged-is (Unlawful p) at e = let f : at ≡ p = cc in ap damaged f
 
 pub book-long : (book notes : List ℕ) → longest_file < length notes → book ≡ book_listed book notes
 unfolding book_listed
-book-long book notes h = sym (cond-true (is_too_long notes) book (book_after book (restart_any notes)) (lt-ltb longest_file (length notes) h))
+book-long book notes h = sym (cond-true (is_too_long notes) book (book_after book (restart notes)) (lt-ltb longest_file (length notes) h))
 
-pub book-is : (book notes : List ℕ) → length notes ≤ longest_file → book_after book (restart_any notes) ≡ book_listed book notes
+pub book-is : (book notes : List ℕ) → length notes ≤ longest_file → book_after book (restart notes) ≡ book_listed book notes
 unfolding book_listed
-book-is book notes h = sym (cond-false (is_too_long notes) book (book_after book (restart_any notes)) (le-ltb longest_file (length notes) h))
+book-is book notes h = sym (cond-false (is_too_long notes) book (book_after book (restart notes)) (le-ltb longest_file (length notes) h))
 
-pub printed-fits : (notes : List ℕ) → length notes ≤ longest_file → length (printed (restart_any notes)) ≤ longest_file
+pub printed-fits : (notes : List ℕ) → length notes ≤ longest_file → length (printed (restart notes)) ≤ longest_file
 printed-fits notes h = subst (λ (l : List ℕ). length l ≤ longest_file) (listing-is notes h) (listing-most notes)
 
 pub damaged-at : (o : Outcome) (at most : ℕ) → restarted.Unlawful at ≡ told o → GivenIn most o → at ≤ most

@@ -9,7 +9,7 @@ use Rattle.book.specs.Memory.{slots_in}
 use Rattle.book.specs.Place.{sum_where}
 use Rattle.book.specs.Orders.{fills_of}
 use Rattle.note.specs.Notes.{written}
-use Rattle.restart.specs.Restart.{Outcome, Again, Unlawful, restart_any, book_after}
+use Rattle.restart.specs.Restart.{Outcome, Again, Unlawful, restart, book_after}
 
 -- the contracts of the fills among some slots: the sum of their LastShares
 abbrev pub contracts : List Slot → ℕ
@@ -50,11 +50,11 @@ abbrev pub too_long : List ℕ
 too_long = bytes_of "too long" ++ line_feed
 
 unfoldable pub listing : List ℕ → List ℕ
-listing notes = cond (is_too_long notes) too_long (printed (restart_any notes))
+listing notes = cond (is_too_long notes) too_long (printed (restart notes))
 
 -- the lent book after it: that of the restart, which a file that is too long does not come to
 unfoldable pub book_listed : List ℕ → List ℕ → List ℕ
-book_listed book notes = cond (is_too_long notes) book (book_after book (restart_any notes))
+book_listed book notes = cond (is_too_long notes) book (book_after book (restart notes))
 
 -- ---- from a memory, as the code has it
 

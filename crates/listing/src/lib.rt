@@ -137,7 +137,7 @@ fn print(notes: &[u8], book: &mut [u8; BOOK], page: &mut [u8]) -> usize
         octet::copy_into(page, 0, b"too long\n");
         return 9;
     }
-    match restart::restart_any(book, notes) {
+    match restart::restart(book, notes) {
         Restarted::Again(m, _) => print_waiting(m, book, page),
         Restarted::Unlawful(at) => damaged_text(at as u64).place(page, 0),
     }

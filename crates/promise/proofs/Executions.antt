@@ -14,7 +14,7 @@ use Rattle.octet.proofs.Cases.{bool_case, contrary, and-fails, and-no-right, fin
 use Rattle.octet.proofs.Lists.{same-sym}
 use Rattle.fill.specs.Slot.{Slot, is_fill, is_entry, exec_of}
 use Rattle.fill.specs.Entry.{key_of}
-use Rattle.fill.specs.Booked.{AnySlot, line_of}
+use Rattle.fill.specs.Booked.{IsSlot, line_of}
 use Rattle.book.specs.Place.{same_exec}
 use Rattle.book.specs.Entries.{same_key}
 use Rattle.book.specs.Admitting.{twins}
@@ -68,10 +68,10 @@ other_key : (f g : Slot) → is_entry g ≡ true → same_key f g ≡ false → 
 unfolding same_key
 other_key f g = other-same (is_entry g) (is_entry f) (key_of f) (key_of g)
 
-fill-of : (g : Slot) → AnySlot g → is_entry g ≡ false → is_fill g ≡ true
+fill-of : (g : Slot) → IsSlot g → is_entry g ≡ false → is_fill g ≡ true
 fill-of g is h = ⊎_elim (λ t. t) (λ t. contrary t h) is.marked
 
-other_way : (f g : Slot) → AnySlot g → twins f g ≡ false → twins g f ≡ false
+other_way : (f g : Slot) → IsSlot g → twins f g ≡ false → twins g f ≡ false
 other_way f g is h =
     ⊎_elim
     (λ ge. twins-as g ge f

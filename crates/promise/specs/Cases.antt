@@ -16,7 +16,6 @@ use Rattle.table.specs.declared.Range.TheVariants.{Any}
 use Rattle.answer.specs.Numbers.{fault, phase_number}
 use Rattle.answer.specs.Setup.{id_with}
 use Rattle.answer.specs.declared.Setup.{Setup}
-use Rattle.answer.specs.declared.Venue.TheVariants.{Sapphire}
 use Rattle.answer.specs.declared.Fault.{Fault}
 use Rattle.answer.specs.declared.Phase.TheVariants.{In}
 use Rattle.answer.specs.declared.Outcome.{Outcome}
@@ -39,7 +38,7 @@ pub data Case : Type 0 where
 
 -- a receiver whose IDs are FIRM and SPHR, in phase 2, with no fills; and what it does when it is given a message
 abbrev pub agreed : Setup
-agreed = record { ours = id_with (bytes_of "FIRM"); venue = Sapphire }
+agreed = record { ours = id_with (bytes_of "FIRM"); theirs = id_with (bytes_of "SPHR") }
 
 abbrev pub within : ℕ → ℕ → State
 within e o = record { phase = In; asked = 0; offered = 0; kept = record { e = e; o = o; slots = []; rows = []; load = no_load; acked = 0; day = 0 } }

@@ -53,35 +53,35 @@ pub record CrossedBookable (setup : Setup) (st : State) (s : List ℕ) (len : �
   pub turn : InTurn setup st (pieces_of (body_in len s)) kind.Report
   pub crossed : CrossedWell (pieces_of (body_in len s))
   pub alone : first_of 442 (pieces_of (body_in len s)) ≡ none
-  pub new : place st.kept.slots st.kept.rows (slot_in setup (pieces_of (body_in len s))) ≡ placed.New
+  pub new : place st.kept.slots st.kept.rows (slot_in (pieces_of (body_in len s))) ≡ placed.New
 
 -- any such report, in any such state, at any such time, is booked where there is room
 abbrev pub CrossedBooked : Setup → State → Lent → Tally → List ℕ → List ℕ → ℕ → Type 0
 CrossedBooked setup st b t time s len =
-    CrossedBookable setup st s len → has_room st.kept.slots st.kept.rows st.kept.load (slot_in setup (pieces_of (body_in len s))) ≡ true → Unmet setup st b time
-    → call setup st b t (Message time s) ≡ filled_result setup st t len (slot_in setup (pieces_of (body_in len s)))
+    CrossedBookable setup st s len → has_room st.kept.slots st.kept.rows st.kept.load (slot_in (pieces_of (body_in len s))) ≡ true → Unmet st b time
+    → call setup st b t (Message time s) ≡ filled_result st t len (slot_in (pieces_of (body_in len s)))
 
 -- ---- all that it moved
 
 -- what a message brought by document 01's four rules
-abbrev pub former_by : Setup → Session → Look → Verdict → Brings
-former_by setup s look (Settled j) = Nothing j
-former_by setup s look (Report n) = of_report setup s look n (after_rules (is_aside look) (former_fault (report_of look)))
-former_by setup s look (Correction n) = This n (entry_for look)
+abbrev pub former_by : Session → Look → Verdict → Brings
+former_by s look (Settled j) = Nothing j
+former_by s look (Report n) = of_report s look n (after_rules (is_aside look) (former_fault (report_of look)))
+former_by s look (Correction n) = This n (entry_for look)
 
 abbrev pub former_brings : Setup → State → Pieces → Brings
-former_brings setup st ps = former_by setup (session_of st) (look_of ps) (judge setup (session_of st) ps)
+former_brings setup st ps = former_by (session_of st) (look_of ps) (judge setup (session_of st) ps)
 
 -- rejected with reason 5 and a tag
 abbrev pub rejects : State → ℕ → Brings
 rejects st tag = Nothing (rejected (session_of st) st.kept.e (fault wrong_value tag))
 
 -- what a report brings that crossed a cancel: rejected where 14 is not between 32's and 38's, else where 151 is not 0; set aside where it has 442; else its fill
-abbrev pub crossed_brings : Setup → State → Pieces → Brings
-crossed_brings setup st ps =
+abbrev pub crossed_brings : State → Pieces → Brings
+crossed_brings st ps =
     cond (between (number_at 32 ps) (number_at 38 ps) (number_at 14 ps))
     (cond (eqb (number_at 151 ps) 0)
-    (cond (is_none (first_of 442 ps)) (This st.kept.e (slot_in setup ps)) (Nothing (passed outcome.Aside (session_of st))))
+    (cond (is_none (first_of 442 ps)) (This st.kept.e (slot_in ps)) (Nothing (passed outcome.Aside (session_of st))))
     (rejects st 151))
     (rejects st 14)
 
@@ -106,7 +106,7 @@ pub record Moved (setup : Setup) (st : State) (ps : Pieces) : Type 0 where
   -- one that did was rejected, whatever it said; and now
   pub before : InTurn setup st ps kind.Report → is_crossed (text_at 150 ps) (text_at 39 ps) ≡ true
       → (f : Fault) × (former_brings setup st ps ≡ Nothing (rejected (session_of st) st.kept.e f))
-  pub now : InTurn setup st ps kind.Report → is_crossed (text_at 150 ps) (text_at 39 ps) ≡ true → brings_of setup st ps ≡ crossed_brings setup st ps
+  pub now : InTurn setup st ps kind.Report → is_crossed (text_at 150 ps) (text_at 39 ps) ≡ true → brings_of setup st ps ≡ crossed_brings st ps
 
 -- ---- "39=8 stays refused"
 
@@ -131,5 +131,5 @@ pub record WouldBook (rules : Values → Option Fault) (setup : Setup) (phase : 
 
 -- a restart takes a note of a fill exactly where that is so, by the rules of now and by document 01's: the request left it the function that it was
 pub record SameRestart (setup : Setup) (phase : Phase) (q : Kept) (e o : ℕ) (s : Slot) : Type 0 where
-  pub now : (kind : ℕ) → (lawful q (Books kind e o s) ≡ true) ↔ WouldBook rule_fault setup phase q e o s
-  pub before : (kind : ℕ) → (lawful q (Books kind e o s) ≡ true) ↔ WouldBook former_fault setup phase q e o s
+  pub now : (lawful q (Books e o s) ≡ true) ↔ WouldBook rule_fault setup phase q e o s
+  pub before : (lawful q (Books e o s) ≡ true) ↔ WouldBook former_fault setup phase q e o s

@@ -1,7 +1,7 @@
 -- THE FIRST DEMAND: "Call refusals. Nothing changes, lent buffers included. Checked in this order". The table, row by row, of any call; and row 9, of setting up.
 use Rattle.std.specs.Prelude.{ℕ, ◌≡◌, ◌↔◌, List, [], ◌∷◌, ◌++◌, Bool, true, false, ◌&&◌, ◌||◌, not, length, ltb, eqb}
 use Rattle.std.proofs.Math.Option.{Option, none, some}
-use Rattle.octet.specs.Bytes.{between, all_in, is}
+use Rattle.octet.specs.Bytes.{between, all_in}
 use Rattle.octet.specs.Maybe.{or_else}
 use Rattle.value.specs.Value.{is_time, among}
 use Rattle.frame.specs.Finding.{found_in, body_in}
@@ -20,11 +20,8 @@ use Rattle.restart.specs.Restart.{Unlawful, restart, told, refused_by}
 use Rattle.tally.specs.declared.Tally.{Tally}
 use Rattle.receiver.specs.State.{State, Did, seen, stored, reply_after, note_after, line_after, book_after}
 use Rattle.receiver.specs.Calls.{Brings, Nothing, This, brings_of}
-use Rattle.receiver.specs.Receiver.{What, Message, Restart, Lent, refuse, call}
-use Rattle.venue.specs.SettingUp.{setting_up}
-use Rattle.answer.specs.Setup.{leave_of}
-use Rattle.answer.specs.declared.Venue.{Venue}
-use Rattle.answer.specs.declared.Venue.TheVariants.{Sapphire, Emerald}
+use Rattle.receiver.specs.Receiver.{What, Message, Restart, Lent, refuse, call, setting_up}
+use Rattle.receiver.specs.Steps.{leave_of}
 use Rattle.receiver.specs.declared.State.{State as Stored}
 use Rattle.promise.specs.Sort.{where_given, Buffers, sort_of, refused_with}
 use Rattle.promise.specs.World.{is_refused}
@@ -32,16 +29,12 @@ use Rattle.promise.specs.Demand2.{Bringing}
 
 -- ---- the column "When", of each call; a row that is none of the call's does not hold
 
--- "1: reply buffer under 512, note buffer under 102, or line buffer under 128 bytes", "1 at Emerald for a note buffer under 160": of the buffers that the call is lent
-abbrev pub least_note : Venue → ℕ
-least_note Sapphire = 102
-least_note Emerald = 160
+-- "1: reply buffer under 512, note buffer under 102, or line buffer under 128 bytes": of the buffers that the call is lent
+abbrev pub short_of : Lent → Buffers → Bool
+short_of b lent = lent.reply && ltb b.reply 512 || lent.note && ltb b.note 102 || lent.line && ltb b.line 128
 
-abbrev pub short_of : Setup → Lent → Buffers → Bool
-short_of setup b lent = lent.reply && ltb b.reply 512 || lent.note && ltb b.note (least_note setup.venue) || lent.line && ltb b.line 128
-
-abbrev pub too_short : Setup → Lent → What → Bool
-too_short setup b w = short_of setup b (sort_of w).lent
+abbrev pub too_short : Lent → What → Bool
+too_short b w = short_of b (sort_of w).lent
 
 -- "2: the given time is not a 21-byte UTC time"
 abbrev pub no_time : List ℕ → Bool
@@ -85,15 +78,15 @@ not_offered st w = where_given false (ltb st.offered) (sort_of w).acks
 abbrev pub still_waiting : State → What → Bool
 still_waiting st w = (sort_of w).clears && ltb 0 (length (waiting st.kept))
 
--- "8: unlawful note, with its first byte's place, from 0"; "8 for a note of the other venue's kind"
-abbrev pub unlawful_note : Setup → What → Option Refusal
-unlawful_note setup w = where_given none (λ (notes : List ℕ). refused_by (told (restart setup.venue notes))) (sort_of w).notes
+-- "8: unlawful note, with its first byte's place, from 0"
+abbrev pub unlawful_note : What → Option Refusal
+unlawful_note w = where_given none (λ (notes : List ℕ). refused_by (told (restart notes))) (sort_of w).notes
 
 -- ---- the table: of each row the refusal, where it holds. 9 is of setting up, before there is a state: see below
 
-abbrev pub above5 : Setup → State → Lent → What → List (Option Refusal)
-above5 setup st b w =
-    refuse refusal.ShortBuffer (too_short setup b w)
+abbrev pub above5 : State → Lent → What → List (Option Refusal)
+above5 st b w =
+    refuse refusal.ShortBuffer (too_short b w)
     ∷ refuse refusal.BadTime (mistimed w)
     ∷ refuse refusal.WrongPhase (wrong_phase st w)
     ∷ refuse refusal.NumbersUsed (numbers_used st w)
@@ -101,11 +94,11 @@ above5 setup st b w =
 
 abbrev pub table : Setup → State → Lent → What → List (Option Refusal)
 table setup st b w =
-    above5 setup st b w
+    above5 st b w
     ++ refuse refusal.NoRoom (no_room setup st w)
     ∷ refuse refusal.NotOffered (not_offered st w)
     ∷ refuse refusal.StillWaiting (still_waiting st w)
-    ∷ unlawful_note setup w
+    ∷ unlawful_note w
     ∷ []
 
 -- the first that holds
@@ -139,9 +132,9 @@ pub record Demand1 (setup : Setup) (st : State) (b : Lent) (t : Tally) (w : What
       → Unchanged s book reply note line (call setup st b t w).did
   -- "no room" is given exactly for a framed report or correction in its turn that would be booked but for room, where no row above it holds
   pub room : (time s : List ℕ) → w ≡ Message time s → (refused_with (call setup st b t w).did.answer ≡ some refusal.NoRoom)
-      ↔ ((first_there (above5 setup st b w) ≡ none) × ((len : ℕ) × (f : Slot) × Bringing setup st s len f × (has_room st.kept.slots st.kept.rows st.kept.load f ≡ false)))
+      ↔ ((first_there (above5 st b w) ≡ none) × ((len : ℕ) × (f : Slot) × Bringing setup st s len f × (has_room st.kept.slots st.kept.rows st.kept.load f ≡ false)))
   -- "unlawful note" exactly where `restart` finds one, with the place that it finds
-  pub note : (notes : List ℕ) (at : ℕ) → w ≡ Restart notes → (refused_with (call setup st b t w).did.answer ≡ some (refusal.Unlawful at)) ↔ (restart setup.venue notes ≡ Unlawful at)
+  pub note : (notes : List ℕ) (at : ℕ) → w ≡ Restart notes → (refused_with (call setup st b t w).did.answer ≡ some (refusal.Unlawful at)) ↔ (restart notes ≡ Unlawful at)
 
 -- ---- setting up
 
@@ -149,10 +142,6 @@ pub record Demand1 (setup : Setup) (st : State) (b : Lent) (t : Tally) (w : What
 abbrev pub bad_id : List ℕ → Bool
 bad_id id = not (between 1 16 (length id) && all_in 33 126 id)
 
--- "9 also for an unknown venue": the exchange's ID names one, SPHR or EMLD
-abbrev pub no_venue : List ℕ → Bool
-no_venue id = not (is "SPHR" id || is "EMLD" id)
-
--- it is refused exactly where ours is such an ID, or the exchange's names no venue
+-- it is refused exactly where one of the two is such an ID
 abbrev pub SetUpRefused : List ℕ → List ℕ → Type 0
-SetUpRefused ours theirs = (setting_up ours theirs).leave ≡ leave_of (refuse refusal.BadId (bad_id ours || no_venue theirs))
+SetUpRefused ours theirs = (setting_up ours theirs).leave ≡ leave_of (refuse refusal.BadId (bad_id ours || bad_id theirs))

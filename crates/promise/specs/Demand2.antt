@@ -1,4 +1,4 @@
--- THE SECOND DEMAND, at any venue: a good report is booked, and a good correction entered. Which message that is, in the paper's words, and what exactly is then done.
+-- THE SECOND DEMAND: a good report is booked, and a good correction entered. Which message that is, in the paper's words, and what exactly is then done.
 use Rattle.std.specs.Prelude.{ℕ, ◌+◌, ◌≤◌, ◌≡◌, List, [], ◌∷◌, ◌++◌, true, length}
 use Rattle.std.proofs.Math.Option.{none, some}
 use Rattle.value.specs.Value.{is_time}
@@ -19,7 +19,6 @@ use Rattle.book.specs.Admitting.{place, has_room, in_step, with_fill, with_entry
 use Rattle.book.specs.declared.Load.{Load}
 use Rattle.book.specs.declared.Placed.TheVariants as placed
 use Rattle.note.specs.Notes.{Books}
-use Rattle.note.specs.Kinds.{note_least, kind_for}
 use Rattle.note.specs.Kept.{Kept}
 use Rattle.report.specs.Report.{report_in, slot_in, rule_fault}
 use Rattle.report.specs.Correction.{entry_in}
@@ -43,16 +42,16 @@ pub record InTurn (setup : Setup) (st : State) (ps : Pieces) (k : Kind) : Type 0
   pub type : kind_in setup ps ≡ k
 
 -- it keeps the four rules, has no 442, and among the day's fills its ExecID is new and its order, where known, has the same symbol and side
-pub record Fresh (setup : Setup) (st : State) (ps : Pieces) : Type 0 where
+pub record Fresh (st : State) (ps : Pieces) : Type 0 where
   pub rules : rule_fault (report_in ps) ≡ none
   pub aside : first_of 442 ps ≡ none
-  pub new : place st.kept.slots st.kept.rows (slot_in setup ps) ≡ placed.New
+  pub new : place st.kept.slots st.kept.rows (slot_in ps) ≡ placed.New
 
 -- the bytes s begin with a framed message of len bytes, a report that is booked if there is room
 pub record Bookable (setup : Setup) (st : State) (s : List ℕ) (len : ℕ) : Type 0 where
   pub framed : found_in s ≡ found.Framed len
   pub turn : InTurn setup st (pieces_of (body_in len s)) kind.Report
-  pub fresh : Fresh setup st (pieces_of (body_in len s))
+  pub fresh : Fresh st (pieces_of (body_in len s))
 
 -- a correction that is entered if there is room: no entry of the day has its key
 pub record Enterable (setup : Setup) (st : State) (s : List ℕ) (len : ℕ) : Type 0 where
@@ -62,20 +61,20 @@ pub record Enterable (setup : Setup) (st : State) (s : List ℕ) (len : ℕ) : T
 
 -- either of them, and the slot that it brings
 pub data Bringing (setup : Setup) (st : State) (s : List ℕ) (len : ℕ) : Slot → Type 0 where
-  A-fill : Bookable setup st s len → Bringing setup st s len (slot_in setup (pieces_of (body_in len s)))
+  A-fill : Bookable setup st s len → Bringing setup st s len (slot_in (pieces_of (body_in len s)))
   An-entry : Enterable setup st s len → Bringing setup st s len (entry_in (pieces_of (body_in len s)))
 
 -- refusals 1, 2 and 4 do not meet a message call; 3 cannot in phase 2 or 4
-pub record Unmet (setup : Setup) (st : State) (b : Lent) (time : List ℕ) : Type 0 where
+pub record Unmet (st : State) (b : Lent) (time : List ℕ) : Type 0 where
   pub reply : 512 ≤ b.reply
-  pub note : note_least setup ≤ b.note
+  pub note : 102 ≤ b.note
   pub long : length time ≡ 21
   pub utc : is_time time ≡ true
   pub numbers : st.kept.o ≤ 999999997
 
--- what is then done: "Then it is booked and numbered from 1"; E rises by 1, O stays, the slot is the last of the day's, nothing is written but the note F or C, at Emerald E or C
-abbrev pub booked_result : Setup → State → Tally → ℕ → Slot → List Row → Load → ℕ → Outcome → Result
-booked_result setup st t len f rows load day o = record {
+-- what is then done: "Then it is booked and numbered from 1"; E rises by 1, O stays, the slot is the last of the day's, nothing is written but the note F or C
+abbrev pub booked_result : State → Tally → ℕ → Slot → List Row → Load → ℕ → Outcome → Result
+booked_result st t len f rows load day o = record {
   did = record {
     answer = Framed len o;
     next = record {
@@ -93,28 +92,28 @@ booked_result setup st t len f rows load day o = record {
       };
     };
     reply = [];
-    note = some (Books (kind_for setup.venue f) (st.kept.e + 1) st.kept.o f);
+    note = some (Books (st.kept.e + 1) st.kept.o f);
     line = [];
   };
   tally = tallied (count_of o) t;
 }
 
 -- a fill, and whether it is in step: its contracts wait, in its order's row and for the day; an entry, of which no order knows
-abbrev pub filled_result : Setup → State → Tally → ℕ → Slot → Result
-filled_result setup st t len f =
+abbrev pub filled_result : State → Tally → ℕ → Slot → Result
+filled_result st t len f =
     let q : Kept = st.kept in
-    booked_result setup st t len f (more_of q.slots q.rows f) (with_fill (is_known q.slots q.rows f) q.load f) (counted q.day (shares_of f))
+    booked_result st t len f (more_of q.slots q.rows f) (with_fill (is_known q.slots q.rows f) q.load f) (counted q.day (shares_of f))
     (Booked (length q.slots + 1) (in_step q.slots q.rows f))
 
-abbrev pub entered_result : Setup → State → Tally → ℕ → Slot → Result
-entered_result setup st t len e =
-    booked_result setup st t len e st.kept.rows (with_entry st.kept.load) st.kept.day (Entered (length st.kept.slots + 1))
+abbrev pub entered_result : State → Tally → ℕ → Slot → Result
+entered_result st t len e =
+    booked_result st t len e st.kept.rows (with_entry st.kept.load) st.kept.day (Entered (length st.kept.slots + 1))
 
 -- any such message, in any such state, at any such time, where there is room
 pub record Demand2 (setup : Setup) (st : State) (b : Lent) (t : Tally) (time s : List ℕ) (len : ℕ) : Type 0 where
-  pub booked : Bookable setup st s len → has_room st.kept.slots st.kept.rows st.kept.load (slot_in setup (pieces_of (body_in len s))) ≡ true → Unmet setup st b time
-      → call setup st b t (Message time s) ≡ filled_result setup st t len (slot_in setup (pieces_of (body_in len s)))
-  pub carries : Bookable setup st s len → Carries setup (pieces_of (body_in len s)) (slot_in setup (pieces_of (body_in len s)))
-  pub entered : Enterable setup st s len → has_room st.kept.slots st.kept.rows st.kept.load (entry_in (pieces_of (body_in len s))) ≡ true → Unmet setup st b time
-      → call setup st b t (Message time s) ≡ entered_result setup st t len (entry_in (pieces_of (body_in len s)))
+  pub booked : Bookable setup st s len → has_room st.kept.slots st.kept.rows st.kept.load (slot_in (pieces_of (body_in len s))) ≡ true → Unmet st b time
+      → call setup st b t (Message time s) ≡ filled_result st t len (slot_in (pieces_of (body_in len s)))
+  pub carries : Bookable setup st s len → Carries (pieces_of (body_in len s)) (slot_in (pieces_of (body_in len s)))
+  pub entered : Enterable setup st s len → has_room st.kept.slots st.kept.rows st.kept.load (entry_in (pieces_of (body_in len s))) ≡ true → Unmet st b time
+      → call setup st b t (Message time s) ≡ entered_result st t len (entry_in (pieces_of (body_in len s)))
   pub enters : Enterable setup st s len → Enters (pieces_of (body_in len s)) (entry_in (pieces_of (body_in len s)))

@@ -67,7 +67,7 @@ spoken_by others setup st time word a next r = record {
 abbrev pub carried_by : Others → Setup → State → List ℕ → ℕ → Pieces → Deed → Did
 carried_by others setup st time len ps (Refuse why) = quiet (Refused why) st
 carried_by others setup st time len ps (Saying j) = spoken_by others setup st time (text_at (word_tag j.reply) ps) (Framed len j.outcome) j.next j.reply
-carried_by others setup st time len ps (Keep s) = booked setup st len s
+carried_by others setup st time len ps (Keep s) = booked st len s
 
 abbrev pub found_by : Others → Setup → State → List ℕ → List ℕ → Found → Did
 found_by others setup st time s found.More = quiet More st
@@ -82,7 +82,7 @@ unrefused_by others setup st Offer = offer st
 unrefused_by others setup st Begin-again = begin_again st
 unrefused_by others setup st (Acknowledge n) = acknowledge st n
 unrefused_by others setup st New-day = new_day st
-unrefused_by others setup st (Restart notes) = restarted st (restart setup.venue notes)
+unrefused_by others setup st (Restart notes) = restarted st (restart notes)
 
 abbrev pub call_by : Others → Setup → State → Lent → Tally → What → Result
 call_by others setup st b t w = result_of t (unless-refused st (refusal_of setup st b w) (unrefused_by others setup st w))

@@ -7,18 +7,17 @@ use Rattle.answer.specs.declared.Setup.{Setup}
 use Rattle.answer.specs.declared.Refusal.{Refusal}
 use Rattle.receiver.specs.State.{State}
 use Rattle.tally.specs.declared.Tally.{Tally}
-use Rattle.receiver.specs.Receiver.{What, Lent, call}
-use Rattle.venue.specs.SettingUp.{setting_up}
-use Rattle.answer.specs.declared.Leave.{Leave}
-use Rattle.answer.specs.declared.Leave.TheVariants as leave
+use Rattle.receiver.specs.Receiver.{What, Lent, call, setting_up}
+use Rattle.receiver.specs.declared.Leave.{Leave}
+use Rattle.receiver.specs.declared.Leave.TheVariants as leave
 use Rattle.promise.specs.Sort.{refused_with}
-use Rattle.promise.specs.Demand1.{too_short, mistimed, wrong_phase, numbers_used, no_room, not_offered, still_waiting, unlawful_note, bad_id, no_venue}
+use Rattle.promise.specs.Demand1.{too_short, mistimed, wrong_phase, numbers_used, no_room, not_offered, still_waiting, unlawful_note, bad_id}
 
 -- the column "When", rows 1 to 8
 abbrev pub holding : Setup → State → Lent → What → List Bool
 holding setup st b w =
-    too_short setup b w ∷ mistimed w ∷ wrong_phase st w ∷ numbers_used st w ∷ no_room setup st w ∷ not_offered st w ∷ still_waiting st w
-    ∷ not (is_none (unlawful_note setup w)) ∷ []
+    too_short b w ∷ mistimed w ∷ wrong_phase st w ∷ numbers_used st w ∷ no_room setup st w ∷ not_offered st w ∷ still_waiting st w
+    ∷ not (is_none (unlawful_note w)) ∷ []
 
 -- the number of the first row that holds, where the first of these is numbered n
 abbrev pub first_row : ℕ → List Bool → Option ℕ
@@ -37,4 +36,4 @@ withheld (leave.Refused why) = some why
 -- rows 1 to 8, of any call; and row 9, of setting up
 pub record Numbered : Type 0 where
   pub calls : (setup : Setup) (st : State) (b : Lent) (t : Tally) (w : What) → column_no (refused_with (call setup st b t w).did.answer) ≡ first_row 1 (holding setup st b w)
-  pub setting_up : (ours theirs : List ℕ) → column_no (withheld (setting_up ours theirs).leave) ≡ first_row 9 ((bad_id ours || no_venue theirs) ∷ [])
+  pub setting_up : (ours theirs : List ℕ) → column_no (withheld (setting_up ours theirs).leave) ≡ first_row 9 ((bad_id ours || bad_id theirs) ∷ [])

@@ -1,23 +1,21 @@
 -- The slot of a Trade Cancel/Correct that passed the table: it has its width and says entry, it reads back field by field, and it is lawful.
---     entry-slot     it is a slot of every venue
---     entry-long, entry-marked     of any pieces
+--     entry-long, entry-marked, entry-ends     of any pieces
 --     correction-sound     what a faultless correction says is what an entry can say
 --     correction-kept     and is read back from its slot
 --     correction-lawful, correction-booked     and the slot is lawful, as an entry and as any slot
 use mathlib.Core.Path.{◌≡◌, refl, ap, ◌∙◌}
 use mathlib.Core.Option.{none}
 use mathlib.Core.Bool.{true}
-use Prim.Native.Nat.{ℕ}
+use Prim.Native.Nat.{ℕ, ◌-◌}
 use native.Mathlib.Omega.{arith}
-use lib.ListN.{length}
+use lib.ListN.{length, get_or}
 use Rattle.octet.specs.Padded.{text_of}
 use Rattle.octet.proofs.Lists.{between-high}
 use Rattle.value.proofs.Prices.{price-small}
 use Rattle.value.proofs.Texts.{one_of}
 use Rattle.value.proofs.Times.{time-is}
 use Rattle.field.specs.Pieces.{Pieces, text_at}
-use Rattle.field.specs.Look.{Look, look_of}
-use Rattle.answer.specs.declared.Venue.{Venue}
+use Rattle.field.specs.Look.{look_of}
 use Rattle.answer.specs.declared.Setup.{Setup}
 use Rattle.answer.specs.declared.Phase.{Phase}
 use Rattle.answer.specs.declared.Kind.TheVariants as kind
@@ -40,11 +38,11 @@ use Rattle.fill.specs.Entry.{
   entry_time_of,
   entry_lawful,
 }
-use Rattle.fill.specs.Booked.{IsSlot, slot_lawful}
+use Rattle.fill.specs.Booked.{slot_lawful}
 use Rattle.fill.proofs.Entry.{
   SoundEntry,
   entry_length,
-  entry-is-slot,
+  entry-normal,
   entry-lawful,
   booked-lawful,
   trade-back,
@@ -70,18 +68,15 @@ pub entry-made : (ps : Pieces) → entry_in ps ≡ entry_slot (correction_in ps)
 unfolding entry_for
 entry-made ps = refl
 
--- ---- of any message
-
--- it is a slot of every venue
-pub entry-slot : (v : Venue) (look : Look) → IsSlot v (entry_for look)
-unfolding entry_for
-entry-slot v look = entry-is-slot (told.correction_of look) v
-
+-- ---- of any pieces
 pub entry-long : (ps : Pieces) → length (entry_in ps) ≡ slot_width
 entry-long ps = ap length (entry-made ps) ∙ entry_length (correction_in ps)
 
 pub entry-marked : (ps : Pieces) → is_entry (entry_in ps) ≡ true
 entry-marked ps = ap is_entry (entry-made ps)
+
+pub entry-ends : (ps : Pieces) → get_or (entry_in ps) (slot_width - 1) 0 ≡ 0
+entry-ends ps = ap (λ (s : Slot). get_or s (slot_width - 1) 0) (entry-made ps) ∙ entry-normal (correction_in ps)
 
 -- ---- of a correction that passed the table
 

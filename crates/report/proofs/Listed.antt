@@ -2,7 +2,6 @@
 use mathlib.Core.Path.{◌≡◌, refl}
 use Rattle.field.specs.Index.{listed, position, column_of}
 use Rattle.field.specs.Look.{Look, at_listed}
-use Rattle.answer.specs.declared.Setup.{Setup}
 use Rattle.report.specs.Report.{report_of, reported_of, slot_for}
 use Rattle.report.specs.Correction.{entry_for}
 
@@ -11,9 +10,9 @@ module _ (look : Look) where
   unfolding reported_of report_of at_listed column_of position listed
   reported-listed = refl
 
-  pub slot-listed : (setup : Setup) → slot_for setup (at_listed look) ≡ slot_for setup look
+  pub slot-listed : slot_for (at_listed look) ≡ slot_for look
   unfolding slot_for at_listed column_of position listed
-  slot-listed setup = refl
+  slot-listed = refl
 
   pub entry_listed : entry_for (at_listed look) ≡ entry_for look
   unfolding entry_for at_listed column_of position listed

@@ -3,15 +3,12 @@ use Rattle.std.specs.Prelude.{◌≡◌}
 use Rattle.octet.specs.Padded.{text_of}
 use Rattle.value.specs.Value.{price_in}
 use Rattle.field.specs.Pieces.{Pieces, text_at}
-use Rattle.field.specs.Look.{look_of}
 use Rattle.table.specs.Steps.{number_at}
-use Rattle.answer.specs.declared.Setup.{Setup}
-use Rattle.report.specs.Report.{terms_for}
-use Rattle.fill.specs.Slot.{Slot, full_time, exec_of, order_of, symbol_of, side_of, quantity_of, shares_of, price_of, cum_of, time_of, terms_of}
+use Rattle.fill.specs.Slot.{Slot, full_time, exec_of, order_of, symbol_of, side_of, quantity_of, shares_of, price_of, cum_of, time_of}
 use Rattle.fill.specs.Entry.{trade_of, number_of, entry_side_of, transaction_of, correction_of, original_of, entry_shares_of, entry_price_of, entry_time_of}
 
--- the fill has what the report says; of its option each value that the field says, and none exactly where the field is not there, or does not apply
-pub record Carries (setup : Setup) (ps : Pieces) (f : Slot) : Type 0 where
+-- the fill has what the report says
+pub record Carries (ps : Pieces) (f : Slot) : Type 0 where
   pub exec : text_of (exec_of f) ≡ text_at 17 ps
   pub order : text_of (order_of f) ≡ text_at 37 ps
   pub symbol : text_of (symbol_of f) ≡ text_at 55 ps
@@ -21,7 +18,6 @@ pub record Carries (setup : Setup) (ps : Pieces) (f : Slot) : Type 0 where
   pub price : price_of f ≡ price_in (text_at 31 ps)
   pub cum : cum_of f ≡ number_at 14 ps
   pub time : time_of f ≡ full_time (text_at 60 ps)
-  pub terms : terms_of f ≡ terms_for setup (look_of ps)
 
 -- the entry has what the correction says: the key, the trade that it changes, and the change
 pub record Enters (ps : Pieces) (e : Slot) : Type 0 where

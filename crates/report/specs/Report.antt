@@ -6,14 +6,11 @@ use Rattle.octet.specs.Bytes.{between, same, is}
 use Rattle.octet.specs.Maybe.{or_else}
 use Rattle.value.specs.Value.{price_in}
 use Rattle.field.specs.Pieces.{Pieces}
-use Rattle.field.specs.Look.{Look, look_of, first}
-use Rattle.table.specs.Steps.{number_of, option_leg}
-use Rattle.answer.specs.Setup.{is_emerald}
-use Rattle.answer.specs.declared.Setup.{Setup}
+use Rattle.field.specs.Look.{Look, look_of}
+use Rattle.table.specs.Steps.{number_of}
 use Rattle.answer.specs.Numbers.{fault, wrong_value}
 use Rattle.answer.specs.declared.Fault.{Fault}
-use Rattle.fill.specs.Terms.{Terms, no_terms}
-use Rattle.fill.specs.Slot.{Slot, Fill, termed, body_of, slot_of}
+use Rattle.fill.specs.Slot.{Slot, Fill, body_of, slot_of}
 use Rattle.report.specs.declared.Reported.{Reported}
 use Rattle.report.specs.declared.Reported.TheVariants.{Faulty, Aside}
 use Rattle.report.specs.declared.Reported.TheVariants as reported
@@ -82,30 +79,9 @@ after_rules aside none = cond aside Aside reported.Fill
 unfoldable pub reported_of : Look → Reported
 reported_of look = after_rules (is_aside look) (rule_fault (report_of look))
 
--- what an Emerald report says of its option: 204 wherever it stands, "200, 205, 201, 202 for an option leg"
-abbrev pub on_leg : {A : Type 0} → Look → Option A → Option A
-on_leg look said = cond (option_leg look) said none
-
-abbrev pub price_said : Option (List ℕ) → Option ℕ
-price_said none = none
-price_said (some v) = some (price_in v)
-
-abbrev pub terms_said : Look → Terms
-terms_said look = record {
-  origin = first look 204;
-  month = on_leg look (first look 200);
-  day = on_leg look (first look 205);
-  put_call = on_leg look (first look 201);
-  strike = on_leg look (price_said (first look 202));
-}
-
--- "A Sapphire fill has none of each, whatever the message carried"
-abbrev pub terms_for : Setup → Look → Terms
-terms_for setup look = cond (is_emerald setup.venue) (terms_said look) no_terms
-
--- the part of a fill that is the same function of the message at both venues
-abbrev pub common_of : Look → Fill
-common_of look = record {
+-- the fill that a report tells of, and its slot
+abbrev pub fill_of : Look → Fill
+fill_of look = record {
   exec = look.text 17;
   order = look.text 37;
   symbol = look.text 55;
@@ -115,24 +91,19 @@ common_of look = record {
   price = price_in (look.text 31);
   cum = number_of look 14;
   time = look.text 60;
-  terms = no_terms;
 }
 
--- the fill that a report tells of, and its slot
-abbrev pub fill_of : Setup → Look → Fill
-fill_of setup look = termed (terms_for setup look) (common_of look)
-
-unfoldable pub slot_for : Setup → Look → Slot
-slot_for setup look = slot_of (body_of (fill_of setup look))
+unfoldable pub slot_for : Look → Slot
+slot_for look = slot_of (body_of (fill_of look))
 
 -- a lent slot after a report: its fill's, where it tells of one, and else as it was
-abbrev pub slot_on : Setup → Look → Slot → Reported → Slot
-slot_on setup look before (Faulty f) = before
-slot_on setup look before Aside = before
-slot_on setup look before reported.Fill = slot_for setup look
+abbrev pub slot_on : Look → Slot → Reported → Slot
+slot_on look before (Faulty f) = before
+slot_on look before Aside = before
+slot_on look before reported.Fill = slot_for look
 
-unfoldable pub slot_after : Setup → Look → Slot → Slot
-slot_after setup look before = slot_on setup look before (reported_of look)
+unfoldable pub slot_after : Look → Slot → Slot
+slot_after look before = slot_on look before (reported_of look)
 
 -- ---- on the pieces of a body
 
@@ -142,5 +113,5 @@ report_in ps = report_of (look_of ps)
 abbrev pub reported_in : Pieces → Reported
 reported_in ps = reported_of (look_of ps)
 
-abbrev pub slot_in : Setup → Pieces → Slot
-slot_in setup ps = slot_for setup (look_of ps)
+abbrev pub slot_in : Pieces → Slot
+slot_in ps = slot_for (look_of ps)

@@ -1,14 +1,9 @@
 // An execution report that passed the table: its values, the four rules, and the slot of its fill; and the slot of the entry that a Trade Cancel/Correct tells of.
-ghost use Rattle.std.specs.Prelude.{◌≡◌, cond, [], ◌%◌};
-ghost use Rattle.std.proofs.Math.Option.{none, some};
-ghost use Rattle.octet.specs.Maybe.{unless};
-ghost use Rattle.octet.specs.Splice.{splice};
-ghost use Rattle.parts.specs.Parts.{laid};
-ghost use Rattle.fill.specs.Terms.{there, term_parts, term_values};
-ghost use Rattle.fill.specs.Slot.{common_width, body_of, slot_of};
+ghost use Rattle.std.specs.Prelude.{◌≡◌, ◌%◌};
+ghost use Rattle.std.proofs.Math.Option.{some};
 ghost use Rattle.value.specs.Value.{price_in};
 ghost use Rattle.answer.specs.Numbers.{fault, wrong_value};
-ghost use Rattle.field.specs.Look.{look_in, first};
+ghost use Rattle.field.specs.Look.{look_in};
 ghost use Rattle.table.specs.Steps.{number_of, found};
 ghost use Rattle.report.specs.Report.{
   sums_of,
@@ -20,14 +15,12 @@ ghost use Rattle.report.specs.Report.{
   status_ok,
   rule_fault,
   reported_of,
-  terms_said,
-  common_of,
   slot_for,
   slot_after,
 };
 ghost use Rattle.report.specs.Correction.{entry_for};
 
-use answer::{Fault, Setup, reasons, tags};
+use answer::{Fault, reasons, tags};
 use field::{Index, count_at, value_at};
 use fill::SLOT;
 use table::{Judgement, number_at};
@@ -176,51 +169,10 @@ fn code_at(body: &[u8], index: &Index, tag: u32) -> u8
     (value::number_of(value_at(body, index, tag)) % 256) as u8
 }
 
-// The value of a tag where it applies, and nothing where it does not or there is none.
-fn said_at<'a>(applies: bool, body: &'a [u8], index: &Index, tag: u32) -> &'a [u8]
-    ensures { result.now ≡ unless [] (cond applies (first (look_in body.now index.now) tag) none) }
-{
-    if !applies {
-        return octet::part(body, 0, 0);
-    }
-    if count_at(body, index, tag) == 0 {
-        return octet::part(body, 0, 0);
-    }
-    value_at(body, index, tag)
-}
-
-// 1 where a strike is said.
-fn flag_at(applies: bool, body: &[u8], index: &Index) -> u8
-    ensures { result ≡ there (cond applies (first (look_in body.now index.now) 202) none) }
-{
-    if applies {
-        if count_at(body, index, tags::STRIKE) != 0 {
-            return 1;
-        }
-    }
-    0
-}
-
-// What an Emerald report says of its option, written into the slot of its fill.
-fn put_said(body: &[u8], index: &Index, slot: &mut [u8; SLOT])
-    ensures { slot.new ≡ splice slot.old common_width (laid term_parts (term_values (terms_said (look_in body.now index.now)))) }
-{
-    let leg = table::is_option_leg(body, index);
-    fill::put_terms(
-        slot,
-        said_at(true, body, index, tags::ORIGIN),
-        said_at(leg, body, index, tags::EXPIRY_MONTH),
-        said_at(leg, body, index, tags::EXPIRY_DAY),
-        said_at(leg, body, index, tags::PUT_OR_CALL),
-        flag_at(leg, body, index),
-        value::price_of(said_at(leg, body, index, tags::STRIKE)),
-    );
-}
-
-// The common part of the slot of the fill that a report tells of, whose sums were read.
+// The slot of the fill that a report tells of, whose sums were read.
 fn slot_by(sums: Sums, body: &[u8], index: &Index) -> [u8; SLOT]
     requires { sums ≡ sums_of (look_in body.now index.now) }
-    ensures { result ≡ slot_of (body_of (common_of (look_in body.now index.now))) }
+    ensures { result ≡ slot_for (look_in body.now index.now) }
 {
     let exec = value_at(body, index, tags::EXEC_ID);
     fill::slot_with(
@@ -236,28 +188,17 @@ fn slot_by(sums: Sums, body: &[u8], index: &Index) -> [u8; SLOT]
     )
 }
 
-// The slot of the fill that a report tells of, whose sums were read, into the lent one.
-fn fill_into(setup: Setup, sums: Sums, body: &[u8], index: &Index, slot: &mut [u8; SLOT])
-    requires { sums ≡ sums_of (look_in body.now index.now) }
-    ensures { slot.new ≡ slot_for setup (look_in body.now index.now) }
-{
-    *slot = slot_by(sums, body, index);
-    if setup.venue().is_emerald() {
-        put_said(body, index, slot);
-    }
-}
-
 // What a report says, by its body's index. The slot of a fill is written into the lent one, and no other answer touches that.
-pub fn reported_into(setup: Setup, body: &[u8], index: &Index, slot: &mut [u8; SLOT]) -> Reported
+pub fn reported_into(body: &[u8], index: &Index, slot: &mut [u8; SLOT]) -> Reported
     ensures { (result ≡ reported_of (look_in body.now index.now))
-        × (slot.new ≡ slot_after setup (look_in body.now index.now) slot.old) }
+        × (slot.new ≡ slot_after (look_in body.now index.now) slot.old) }
 {
     let sums = sums_at(body, index);
     match reported_by(sums, body, index) {
         Reported::Faulty(f) => Reported::Faulty(f),
         Reported::Aside => Reported::Aside,
         Reported::Fill => {
-            fill_into(setup, sums, body, index, slot);
+            *slot = slot_by(sums, body, index);
             Reported::Fill
         }
     }

@@ -1,5 +1,3 @@
 pub mod Going
 pub mod Stepping
-pub mod Either
-pub mod Elsewhere
 pub mod Unique

@@ -13,7 +13,6 @@ use Rattle.octet.proofs.Cases.{cond-true, cond-false, of-cond, and-no-left, bool
 use Rattle.octet.specs.Bytes.{joined}
 use Rattle.octet.proofs.Lists.{drop-done, splice-length}
 use Rattle.answer.specs.Numbers.{largest, nine_digits}
-use Rattle.answer.specs.declared.Venue.{Venue}
 use Rattle.fill.specs.Slot.{Slot, slot_width}
 use Rattle.fill.specs.Booked.{slot_lawful}
 use Rattle.book.specs.Memory.{most_slots, book_width, region_of, slots_here, rows_here, slots_in, rows_in, laid, entered, holding, between, TakesOff}
@@ -75,12 +74,12 @@ pub admits : (m : Counts) (mem : List ℕ) (s : Slot) (k : ℕ) (load : Load) (r
     → r ≡ admit_of (slots_in k mem) (rows_in load.orders mem) load s → admit_of (slots_in m.last mem) (rows_in m.orders mem) (load_in m) s ≡ r
 admits m mem s k load r e el f = ap₂ (λ (n : ℕ) (l : Load). admit_of (slots_in n mem) (rows_in l.orders mem) l s) (sym e) (sym el) ∙ sym f
 
-module _ (m : Counts) (mem : List ℕ) (kind e o : ℕ) (s : Slot) where
-  pub books-out : is_next m e o ≡ false → false ≡ lawful (kept_in m mem) (Books kind e o s)
+module _ (m : Counts) (mem : List ℕ) (e o : ℕ) (s : Slot) where
+  pub books-out : is_next m e o ≡ false → false ≡ lawful (kept_in m mem) (Books e o s)
   unfolding lawful
   books-out h = sym (and-no-left (is_next m e o) (bookable (slots_in m.last mem) (rows_in m.orders mem) (load_in m) s) h)
 
-  pub books-next : {d : Bool} → is_next m e o ≡ true → d ≡ bookable (slots_in m.last mem) (rows_in m.orders mem) (load_in m) s → d ≡ lawful (kept_in m mem) (Books kind e o s)
+  pub books-next : {d : Bool} → is_next m e o ≡ true → d ≡ bookable (slots_in m.last mem) (rows_in m.orders mem) (load_in m) s → d ≡ lawful (kept_in m mem) (Books e o s)
   unfolding lawful
   books-next h f = f ∙ sym (ap (λ (a : Bool). a && bookable (slots_in m.last mem) (rows_in m.orders mem) (load_in m) s) h)
 
@@ -112,10 +111,10 @@ module _ (m : Counts) (mem : List ℕ) where
   unfolding after
   on-clears = refl
 
-  pub on-books : (kind e o day : ℕ) (load : Load) (s : Slot) → load ≡ load_with (slots_in m.last mem) (rows_in m.orders mem) (load_in m) s → day ≡ day_with m.day s
-      → counts e o (m.last + 1) load m.acked day ≡ counts_of (after (kept_in m mem) (Books kind e o s))
+  pub on-books : (e o day : ℕ) (load : Load) (s : Slot) → load ≡ load_with (slots_in m.last mem) (rows_in m.orders mem) (load_in m) s → day ≡ day_with m.day s
+      → counts e o (m.last + 1) load m.acked day ≡ counts_of (after (kept_in m mem) (Books e o s))
   unfolding after
-  on-books kind e o day load s g d =
+  on-books e o day load s g d =
       let l : m.last + 1 ≡ length (slots_in m.last mem ++ (s ∷ [])) = omega (arith, last-is, length-append (slots_in m.last mem) (s ∷ [])) in
       ap₂ (λ (n : ℕ) (x : Load). counts e o n x m.acked day) l g
       ∙ ap (λ (x : ℕ). counts e o (length (slots_in m.last mem ++ (s ∷ []))) (load_with (slots_in m.last mem) (rows_in m.orders mem) (load_in m) s) m.acked x) d
@@ -136,16 +135,16 @@ pub kept-after : (m : Counts) (mem : List ℕ) (note : Note) → length mem ≡ 
     → kept_in (counts_of (after (kept_in m mem) note)) (mem_note mem (kept_in m mem) note) ≡ after (kept_in m mem) note
 unfolding after mem_note
 kept-after m mem (Raises e o) l w t = ap (λ (n : ℕ). kept e o (slots_in n mem) (rows_in m.orders mem) (load_in m) m.acked m.day) (last-is m mem)
-kept-after m mem (Books kind e o s) l w t =
+kept-after m mem (Books e o s) l w t =
     let q = kept_in m mem in
     let ss = slots_in m.last mem in
     let rows = rows_in m.orders mem in
-    let room = (bookable-facts ss rows (load_in m) s (lawful-books q kind e o s t).3).2 in
+    let room = (bookable-facts ss rows (load_in m) s (lawful-books q e o s t).3).2 in
     let f : length ss ≡ m.last = last-is m mem in
     let n : length (ss ++ (s ∷ [])) ≡ m.last + 1 = omega (arith, length-append ss (s ∷ [])) in
     let row : ℕ = row_to ss rows s in
-    let mem' : cond (lawful q (Books kind e o s)) (entered mem (length ss) m.orders row s) mem ≡ entered mem m.last m.orders row s =
-    cond-true (lawful q (Books kind e o s)) (entered mem (length ss) m.orders row s) mem t ∙ ap (λ (k : ℕ). entered mem k m.orders row s) f in
+    let mem' : cond (lawful q (Books e o s)) (entered mem (length ss) m.orders row s) mem ≡ entered mem m.last m.orders row s =
+    cond-true (lawful q (Books e o s)) (entered mem (length ss) m.orders row s) mem t ∙ ap (λ (k : ℕ). entered mem k m.orders row s) f in
     ap₂ (λ (x : List Slot) (y : List Row). kept e o x y (load_with ss rows (load_in m) s) m.acked (day_with m.day s))
     (ap₂ slots_in n mem' ∙ entered-slots mem l m.last (load_in m) s w.wide w.marked room)
     (ap (rows_in (load_with ss rows (load_in m) s).orders) mem' ∙ entered-rows mem l m.last (load_in m) s w.wide w.marked room)
@@ -164,35 +163,34 @@ kept-after m mem Clears l w t = ap₂ (λ (x : List Slot) (y : List Row). kept 1
 never : {A : Type 0} → ◌≡◌ {A = ℕ} 0 1 → A
 never z = absurd (omega arith)
 
-module _ (v : Venue) (m : Counts) (mem s : List ℕ) (at : ℕ) where
+module _ (m : Counts) (mem s : List ℕ) (at : ℕ) where
   abbrev q : Kept
   q = kept_in m mem
 
-  on-by : (next : Counts) (r : Reading) → length mem ≡ book_width → read_note v s ≡ r → step.On next ≡ step_read q r
-      → (go v q at s ≡ go v (kept_in next (mem_read mem q r)) (at + size_taken r) (drop (size_taken r) s)) × (size_taken r ≤ length s) × (0 < size_taken r)
+  on-by : (next : Counts) (r : Reading) → length mem ≡ book_width → read_note s ≡ r → step.On next ≡ step_read q r
+      → (go q at s ≡ go (kept_in next (mem_read mem q r)) (at + size_taken r) (drop (size_taken r) s)) × (size_taken r ≤ length s) × (0 < size_taken r)
   unfolding step_note
   on-by next Part l e t = never cc
   on-by next Unknown l e t = never cc
   on-by next (Whole note n) l e t =
-      let w = read_is v s note n e in
+      let w = read_is s note n e in
       ⊎_elim
       (λ h. (let k : next ≡ counts_of (after q note) = cc (cond-true (lawful q note) (step.On (counts_of (after q note))) step.Bad h) in (
-        go_on v q at s note n e h
-            ∙ ap (λ (x : Kept). go v x (at + n) (drop n s)) (sym (kept-after m mem note l w.slotted h) ∙ ap (λ (x : Counts). kept_in x (mem_note mem q note)) (sym k)),
+        go_on q at s note n e h
+            ∙ ap (λ (x : Kept). go x (at + n) (drop n s)) (sym (kept-after m mem note l w.slotted h) ∙ ap (λ (x : Counts). kept_in x (mem_note mem q note)) (sym k)),
         w.there,
-        some-taken v s note n e,
+        some-taken s note n e,
       )))
       (λ h. never (cc (cond-false (lawful q note) (step.On (counts_of (after q note))) step.Bad h)))
       (bool_case (lawful q note))
 
-  pub on-goes : (next : Counts) → length mem ≡ book_width → step.On next ≡ step_read q (read_note v s)
-      → (go v q at s ≡ go v (kept_in next (mem_read mem q (read_note v s))) (at + size_taken (read_note v s)) (drop (size_taken (read_note v s)) s))
-      × (size_taken (read_note v s) ≤ length s) × (0 < size_taken (read_note v s))
-  on-goes next l t = on-by next (read_note v s) l refl t
+  pub on-goes : (next : Counts) → length mem ≡ book_width → step.On next ≡ step_read q (read_note s)
+      → (go q at s ≡ go (kept_in next (mem_read mem q (read_note s))) (at + size_taken (read_note s)) (drop (size_taken (read_note s)) s)) × (size_taken (read_note s) ≤ length s) × (0 < size_taken (read_note s))
+  on-goes next l t = on-by next (read_note s) l refl t
 
-  end_by : (r : Reading) → read_note v s ≡ r → step.End ≡ step_read q r → (go v q at s ≡ Again q at) × (mem_read mem q r ≡ mem)
+  end_by : (r : Reading) → read_note s ≡ r → step.End ≡ step_read q r → (go q at s ≡ Again q at) × (mem_read mem q r ≡ mem)
   unfolding step_note
-  end_by Part e t = (go-part v q at s e, refl)
+  end_by Part e t = (go-part q at s e, refl)
   end_by Unknown e t = never cc
   end_by (Whole note n) e t =
       ⊎_elim
@@ -200,21 +198,21 @@ module _ (v : Venue) (m : Counts) (mem s : List ℕ) (at : ℕ) where
       (λ h. never (cc (cond-false (lawful q note) (step.On (counts_of (after q note))) step.Bad h)))
       (bool_case (lawful q note))
 
-  pub end_goes : step.End ≡ step_read q (read_note v s) → (go v q at s ≡ Again q at) × (mem_read mem q (read_note v s) ≡ mem)
-  end_goes t = end_by (read_note v s) refl t
+  pub end_goes : step.End ≡ step_read q (read_note s) → (go q at s ≡ Again q at) × (mem_read mem q (read_note s) ≡ mem)
+  end_goes t = end_by (read_note s) refl t
 
-  bad-by : (r : Reading) → read_note v s ≡ r → step.Bad ≡ step_read q r → go v q at s ≡ Unlawful at
+  bad-by : (r : Reading) → read_note s ≡ r → step.Bad ≡ step_read q r → go q at s ≡ Unlawful at
   unfolding step_note
   bad-by Part e t = never cc
-  bad-by Unknown e t = go-unknown v q at s e
+  bad-by Unknown e t = go-unknown q at s e
   bad-by (Whole note n) e t =
       ⊎_elim
       (λ h. never (cc (cond-true (lawful q note) (step.On (counts_of (after q note))) step.Bad h)))
-      (λ h. go-bad v q at s note n e h)
+      (λ h. go-bad q at s note n e h)
       (bool_case (lawful q note))
 
-  pub bad-goes : step.Bad ≡ step_read q (read_note v s) → go v q at s ≡ Unlawful at
-  bad-goes t = bad-by (read_note v s) refl t
+  pub bad-goes : step.Bad ≡ step_read q (read_note s) → go q at s ≡ Unlawful at
+  bad-goes t = bad-by (read_note s) refl t
 
 -- ---- the end of a replay
 pub replay-ends : (o : Outcome) (m : Counts) (mem mem' : List ℕ) (at : ℕ) → o ≡ Again (kept_in m mem) at → mem' ≡ mem
@@ -227,43 +225,43 @@ replay-ends o m mem mem' at e f =
 pub replay-bad : (o : Outcome) (mem' : List ℕ) (at : ℕ) → o ≡ Unlawful at → (restarted.Unlawful at ≡ told o) × HasDay mem' o
 replay-bad o mem' at e = (sym (ap told e), subst (HasDay mem') (sym e) tt)
 
-pub start : (v : Venue) (notes mem : List ℕ) (m : Counts) → m ≡ counts_of empty → restart v notes ≡ go v (kept_in m mem) 0 notes
-start v notes mem m e =
-    restart-go v notes
-    ∙ ap₂ (λ (x : List Slot) (y : List Row). go v (kept 1 1 x y no_load 0 0) 0 notes)
+pub start : (notes mem : List ℕ) (m : Counts) → m ≡ counts_of empty → restart notes ≡ go (kept_in m mem) 0 notes
+start notes mem m e =
+    restart-go notes
+    ∙ ap₂ (λ (x : List Slot) (y : List Row). go (kept 1 1 x y no_load 0 0) 0 notes)
     (sym (cells-none slot_width (region_of slots_here mem))) (sym (cells-none row_width (region_of rows_here mem)))
-    ∙ ap (λ (k : Counts). go v (kept_in k mem) 0 notes) (sym e)
+    ∙ ap (λ (k : Counts). go (kept_in k mem) 0 notes) (sym e)
 
 -- ---- a turn of the replay, at place `at` of the notes l, of which s is the rest, with o the answer
-module _ (v : Venue) (l s : List ℕ) (o : Outcome) (m : Counts) (mem mem' : List ℕ) (at : ℕ) where
-  pub turn_on : {next : Counts} {n : ℕ} → s ≡ drop at l → o ≡ go v (kept_in m mem) at (drop at l) → length mem ≡ book_width → at ≤ length l
-      → step.On next ≡ step_read (kept_in m mem) (read_note v s) → mem' ≡ mem_read mem (kept_in m mem) (read_note v s) → n ≡ size_taken (read_note v s)
-      → (o ≡ go v (kept_in next mem') (at + n) (drop (at + n) l)) × (at + n ≤ length l) × (0 < n)
+module _ (l s : List ℕ) (o : Outcome) (m : Counts) (mem mem' : List ℕ) (at : ℕ) where
+  pub turn_on : {next : Counts} {n : ℕ} → s ≡ drop at l → o ≡ go (kept_in m mem) at (drop at l) → length mem ≡ book_width → at ≤ length l
+      → step.On next ≡ step_read (kept_in m mem) (read_note s) → mem' ≡ mem_read mem (kept_in m mem) (read_note s) → n ≡ size_taken (read_note s)
+      → (o ≡ go (kept_in next mem') (at + n) (drop (at + n) l)) × (at + n ≤ length l) × (0 < n)
   turn_on {next} {n} es eo el h t em en =
-      let g = on-goes v m mem s at next el t in
+      let g = on-goes m mem s at next el t in
       let fits : n ≤ length s = rw (← en) at g.1 in
       let ls : length s ≡ length l - at = ap length es ∙ length-drop at l in (
-        eo ∙ ap (go v (kept_in m mem) at) (sym es) ∙ g.0
-            ∙ ap₂ (λ (x : List ℕ) (k : ℕ). go v (kept_in next x) (at + k) (drop k s)) (sym em) (sym en)
-            ∙ ap (go v (kept_in next mem') (at + n)) (ap (drop n) es ∙ drop-drop n at l),
+        eo ∙ ap (go (kept_in m mem) at) (sym es) ∙ g.0
+            ∙ ap₂ (λ (x : List ℕ) (k : ℕ). go (kept_in next x) (at + k) (drop k s)) (sym em) (sym en)
+            ∙ ap (go (kept_in next mem') (at + n)) (ap (drop n) es ∙ drop-drop n at l),
         omega arith,
         rw (← en) at g.2,
       )
 
-  pub turn_end : s ≡ drop at l → o ≡ go v (kept_in m mem) at (drop at l) → step.End ≡ step_read (kept_in m mem) (read_note v s) → mem' ≡ mem_read mem (kept_in m mem) (read_note v s)
+  pub turn_end : s ≡ drop at l → o ≡ go (kept_in m mem) at (drop at l) → step.End ≡ step_read (kept_in m mem) (read_note s) → mem' ≡ mem_read mem (kept_in m mem) (read_note s)
       → (restarted.Again m at ≡ told o) × HasDay mem' o
   turn_end es eo t em =
-      let g = end_goes v m mem s at t in
-      replay-ends o m mem mem' at (eo ∙ ap (go v (kept_in m mem) at) (sym es) ∙ g.0) (em ∙ g.1)
+      let g = end_goes m mem s at t in
+      replay-ends o m mem mem' at (eo ∙ ap (go (kept_in m mem) at) (sym es) ∙ g.0) (em ∙ g.1)
 
-  pub turn-bad : s ≡ drop at l → o ≡ go v (kept_in m mem) at (drop at l) → step.Bad ≡ step_read (kept_in m mem) (read_note v s)
+  pub turn-bad : s ≡ drop at l → o ≡ go (kept_in m mem) at (drop at l) → step.Bad ≡ step_read (kept_in m mem) (read_note s)
       → (restarted.Unlawful at ≡ told o) × HasDay mem' o
-  turn-bad es eo t = replay-bad o mem' at (eo ∙ ap (go v (kept_in m mem) at) (sym es) ∙ bad-goes v m mem s at t)
+  turn-bad es eo t = replay-bad o mem' at (eo ∙ ap (go (kept_in m mem) at) (sym es) ∙ bad-goes m mem s at t)
 
-pub turns-done : (v : Venue) (l : List ℕ) (o : Outcome) (m : Counts) (mem : List ℕ) (at : ℕ) → o ≡ go v (kept_in m mem) at (drop at l) → length l ≤ at
+pub turns-done : (l : List ℕ) (o : Outcome) (m : Counts) (mem : List ℕ) (at : ℕ) → o ≡ go (kept_in m mem) at (drop at l) → length l ≤ at
     → (restarted.Again m at ≡ told o) × HasDay mem o
-turns-done v l o m mem at eo h =
-    replay-ends o m mem mem at (eo ∙ ap (go v (kept_in m mem) at) (drop-done l at h) ∙ go-end v (kept_in m mem) at) refl
+turns-done l o m mem at eo h =
+    replay-ends o m mem mem at (eo ∙ ap (go (kept_in m mem) at) (drop-done l at h) ∙ go-end (kept_in m mem) at) refl
 
 -- the memory keeps its length
 pub mem-length : (mem : List ℕ) (q : Kept) (r : Reading) → length (mem_read mem q r) ≡ length mem
@@ -271,8 +269,8 @@ unfolding mem_note
 mem-length mem q Part = refl
 mem-length mem q Unknown = refl
 mem-length mem q (Whole (Raises e o) n) = refl
-mem-length mem q (Whole (Books kind e o s) n) =
-    of-cond (λ (l : List ℕ). length l ≡ length mem) (lawful q (Books kind e o s))
+mem-length mem q (Whole (Books e o s) n) =
+    of-cond (λ (l : List ℕ). length l ≡ length mem) (lawful q (Books e o s))
     (λ t. entered-length mem (length q.slots) q.load.orders (row_to q.slots q.rows s) s) (λ t. refl)
 mem-length mem q (Whole (Acks k) n) =
     of-cond (λ (l : List ℕ). length l ≡ length mem) (lawful q (Acks k))
@@ -280,14 +278,14 @@ mem-length mem q (Whole (Acks k) n) =
 mem-length mem q (Whole Clears n) = refl
 
 -- ---- the step of a note that is read
-pub take_whole : {n : Note} {k : ℕ} {r : Step} {mem' : List ℕ} (v : Venue) (q : Kept) (mem s : List ℕ) → read_note v s ≡ Whole n k → r ≡ step_note q n → mem' ≡ mem_note mem q n
-    → (r ≡ step_read q (read_note v s)) × (mem' ≡ mem_read mem q (read_note v s))
-take_whole v q mem s e er em = (er ∙ sym (ap (step_read q) e), em ∙ sym (ap (mem_read mem q) e))
+pub take_whole : {n : Note} {k : ℕ} {r : Step} {mem' : List ℕ} (q : Kept) (mem s : List ℕ) → read_note s ≡ Whole n k → r ≡ step_note q n → mem' ≡ mem_note mem q n
+    → (r ≡ step_read q (read_note s)) × (mem' ≡ mem_read mem q (read_note s))
+take_whole q mem s e er em = (er ∙ sym (ap (step_read q) e), em ∙ sym (ap (mem_read mem q) e))
 
-pub take-books : {kind e o k : ℕ} {x y : Slot} {r : Step} {mem' : List ℕ} (v : Venue) (q : Kept) (mem s : List ℕ) → x ≡ y → read_note v s ≡ Whole (Books kind e o y) k
-    → r ≡ step_note q (Books kind e o x) → mem' ≡ mem_note mem q (Books kind e o x) → (r ≡ step_read q (read_note v s)) × (mem' ≡ mem_read mem q (read_note v s))
-take-books {kind} {e} {o} v q mem s ex er es em =
-    take_whole v q mem s er (es ∙ ap (λ (z : Slot). step_note q (Books kind e o z)) ex) (em ∙ ap (λ (z : Slot). mem_note mem q (Books kind e o z)) ex)
+pub take-books : {e o k : ℕ} {x y : Slot} {r : Step} {mem' : List ℕ} (q : Kept) (mem s : List ℕ) → x ≡ y → read_note s ≡ Whole (Books e o y) k → r ≡ step_note q (Books e o x)
+    → mem' ≡ mem_note mem q (Books e o x) → (r ≡ step_read q (read_note s)) × (mem' ≡ mem_read mem q (read_note s))
+take-books {e} {o} q mem s ex er es em =
+    take_whole q mem s er (es ∙ ap (λ (z : Slot). step_note q (Books e o z)) ex) (em ∙ ap (λ (z : Slot). mem_note mem q (Books e o z)) ex)
 
 pub mem-raises : (mem : List ℕ) (q : Kept) (e o : ℕ) → mem ≡ mem_note mem q (Raises e o)
 unfolding mem_note
@@ -315,12 +313,12 @@ pub mem-clears : (mem : List ℕ) (q : Kept) → mem ≡ mem_note mem q Clears
 unfolding mem_note
 mem-clears mem q = refl
 
-pub mem-no : (mem : List ℕ) (q : Kept) (kind e o : ℕ) (s : Slot) → false ≡ lawful q (Books kind e o s) → mem ≡ mem_note mem q (Books kind e o s)
+pub mem-no : (mem : List ℕ) (q : Kept) (e o : ℕ) (s : Slot) → false ≡ lawful q (Books e o s) → mem ≡ mem_note mem q (Books e o s)
 unfolding mem_note
-mem-no mem q kind e o s t =
-    sym (cond-false (lawful q (Books kind e o s)) (entered mem (length q.slots) q.load.orders (row_to q.slots q.rows s) s) mem (sym t))
+mem-no mem q e o s t =
+    sym (cond-false (lawful q (Books e o s)) (entered mem (length q.slots) q.load.orders (row_to q.slots q.rows s) s) mem (sym t))
 
-module _ (m : Counts) (mem : List ℕ) (kind e o : ℕ) (s : Slot) (t : true ≡ lawful (kept_in m mem) (Books kind e o s)) where
+module _ (m : Counts) (mem : List ℕ) (e o : ℕ) (s : Slot) (t : true ≡ lawful (kept_in m mem) (Books e o s)) where
   abbrev ss : List Slot
   ss = slots_in m.last mem
 
@@ -328,16 +326,16 @@ module _ (m : Counts) (mem : List ℕ) (kind e o : ℕ) (s : Slot) (t : true ≡
   rows = rows_in m.orders mem
 
   pub mem-yes : (last orders row : ℕ) (mem' : List ℕ) → last ≡ m.last → orders ≡ m.orders → row ≡ (booking_of ss rows (load_in m) s).row → mem' ≡ entered mem last orders row s
-      → mem' ≡ mem_note mem (kept_in m mem) (Books kind e o s)
+      → mem' ≡ mem_note mem (kept_in m mem) (Books e o s)
   unfolding mem_note booking_of
   mem-yes last orders row mem' el eo er h =
       h
       ∙ ap₂ (λ (k n : ℕ). entered mem k n row s) (el ∙ sym (last-is m mem)) eo
       ∙ ap (λ (k : ℕ). entered mem (length ss) m.orders k s) er
-      ∙ sym (cond-true (lawful (kept_in m mem) (Books kind e o s)) (entered mem (length ss) m.orders (row_to ss rows s) s) mem (sym t))
+      ∙ sym (cond-true (lawful (kept_in m mem) (Books e o s)) (entered mem (length ss) m.orders (row_to ss rows s) s) mem (sym t))
 
   room : has_room ss rows (load_in m) s ≡ true
-  room = (bookable-facts ss rows (load_in m) s (lawful-books (kept_in m mem) kind e o s (sym t)).3).2
+  room = (bookable-facts ss rows (load_in m) s (lawful-books (kept_in m mem) e o s (sym t)).3).2
 
   -- the counts stay in their range
   pub last-few : m.last < most_slots

@@ -1,3 +1,2 @@
 pub mod Restart
 pub mod Steps
-pub mod Elsewhere

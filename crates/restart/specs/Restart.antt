@@ -1,12 +1,10 @@
--- "A restart reads whole notes, drops a part at the end, and says how many bytes are whole." It is given the venue, as the receiver is.
-use Rattle.std.specs.Prelude.{ℕ, zero, suc, ◌+◌, max, ◌≡◌, List, cond, length, drop}
+-- "A restart reads whole notes, drops a part at the end, and says how many bytes are whole."
+use Rattle.std.specs.Prelude.{ℕ, zero, suc, ◌+◌, ◌≡◌, List, cond, length, drop}
 use Rattle.std.proofs.Math.Option.{Option, none, some}
 use Rattle.book.specs.Memory.{slots_in, rows_in, holding}
 use Rattle.book.specs.declared.Load.{Load}
 use Rattle.note.specs.Notes.{Reading, Whole, Part, Unknown, read_note}
 use Rattle.note.specs.Kept.{Kept, empty, lawful, after}
-use Rattle.answer.specs.declared.Venue.{Venue}
-use Rattle.answer.specs.declared.Venue.TheVariants.{Sapphire, Emerald}
 use Rattle.answer.specs.declared.Refusal.{Refusal}
 use Rattle.answer.specs.declared.Refusal.TheVariants as refusal
 use Rattle.restart.specs.declared.Counts.{Counts}
@@ -24,23 +22,13 @@ by_read q at go Unknown = Unlawful at
 by_read q at go (Whole note n) = cond (lawful q note) (go (after q note) n) (Unlawful at)
 
 -- at most `most` notes of s, whose first byte is at place `at`
-unfoldable pub run : Venue → ℕ → Kept → ℕ → List ℕ → Outcome
-run v zero q at s = Again q at
-run v (suc most) q at s = by_read q at (λ (r : Kept) (n : ℕ). run v most r (at + n) (drop n s)) (read_note v s)
+unfoldable pub run : ℕ → Kept → ℕ → List ℕ → Outcome
+run zero q at s = Again q at
+run (suc most) q at s = by_read q at (λ (r : Kept) (n : ℕ). run most r (at + n) (drop n s)) (read_note s)
 
 -- all notes: a note has at least one byte
-unfoldable pub restart : Venue → List ℕ → Outcome
-restart v notes = run v (length notes) empty 0 notes
-
--- ---- a file of which nobody says whose it is: as Sapphire's, and where that is unlawful as Emerald's; where both are, the place to which the further one came
-
-abbrev pub further : Outcome → Outcome → Outcome
-further (Again q whole) other = Again q whole
-further (Unlawful at) (Again q whole) = Again q whole
-further (Unlawful at) (Unlawful other) = Unlawful (max at other)
-
-unfoldable pub restart_any : List ℕ → Outcome
-restart_any notes = further (restart Sapphire notes) (restart Emerald notes)
+unfoldable pub restart : List ℕ → Outcome
+restart notes = run (length notes) empty 0 notes
 
 -- ---- the code's answer, with the slots and the rows in the lent book: "Lent bytes past what is written stay"
 

@@ -46,8 +46,8 @@ step_read q Unknown = step.Bad
 -- the memory after it: one slot more where a fill or an entry is booked, with the fill's contracts in its order's row; and what waits in the rows after an acknowledge
 unfoldable pub mem_note : List ℕ → Kept → Note → List ℕ
 mem_note mem q (Raises e o) = mem
-mem_note mem q (Books kind e o s) =
-    cond (lawful q (Books kind e o s)) (entered mem (length q.slots) q.load.orders (row_to q.slots q.rows s) s) mem
+mem_note mem q (Books e o s) =
+    cond (lawful q (Books e o s)) (entered mem (length q.slots) q.load.orders (row_to q.slots q.rows s) s) mem
 mem_note mem q (Acks n) = cond (lawful q (Acks n)) (laid rows_here mem (rows_without q.slots q.rows (between q.acked n q.slots))) mem
 mem_note mem q Clears = mem
 

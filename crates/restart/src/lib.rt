@@ -1,13 +1,13 @@
 // A restart: from the notes to what they keep, or to the place of the first unlawful one. "A restart reads whole notes, drops a
 // part at the end, and says how many bytes are whole."
-ghost use Rattle.std.specs.Prelude.{◌≡◌, ℕ, ◌+◌, ◌≤◌, max, length};
+ghost use Rattle.std.specs.Prelude.{◌≡◌, ◌+◌, ◌≤◌, length};
 ghost use Rattle.book.specs.Memory.{book_width};
 ghost use Rattle.note.specs.Notes.{Raises, Books, Acks, Clears, read_note, told as said};
 ghost use Rattle.note.specs.Kept.{lawful, empty};
-ghost use Rattle.restart.specs.Restart.{restart, restart_any, counts_of, load_in, Restarts};
+ghost use Rattle.restart.specs.Restart.{restart, counts_of, load_in, Restarts};
 ghost use Rattle.restart.specs.Steps.{kept_in, bare, raised, is_next, step_note, Takes, Steps, Replays};
 
-use answer::{NINE_DIGITS, Venue};
+use answer::NINE_DIGITS;
 use book::{Admitted, BOOK, Load};
 use note::Read;
 
@@ -176,10 +176,10 @@ fn is_next(m: Counts, e: u32, o: u32) -> bool
     o == m.o
 }
 
-// "F has E one up within that, O the same, and a report that would be booked"; E alike, and C with an entry: whatever the kind. The slot is written after the last one,
+// "F has E one up within that, O the same, and a report that would be booked"; C alike, with an entry. The slot is written after the last one,
 // and a fill's contracts into its order's row.
 fn step_books(mem: &mut [u8; BOOK], m: Counts, e: u32, o: u32, slot: &[u8]) -> Step
-    ensures { (kind : ℕ) → Takes mem.old (kept_in m mem.old) (Books kind e o slot.now) result mem.new }
+    ensures { Takes mem.old (kept_in m mem.old) (Books e o slot.now) result mem.new }
 {
     let last = wide(m.last);
     if !is_next(m, e, o) {
@@ -210,13 +210,13 @@ fn step_books(mem: &mut [u8; BOOK], m: Counts, e: u32, o: u32, slot: &[u8]) -> S
 }
 
 // What the first note of s does, of which it is given what it says.
-fn take_note(venue: Venue, mem: &mut [u8; BOOK], m: Counts, says: Read, s: &[u8]) -> Step
-    requires { says ≡ said (read_note venue s.now) }
-    ensures { Steps mem.old (kept_in m mem.old) (read_note venue s.now) result mem.new }
+fn take_note(mem: &mut [u8; BOOK], m: Counts, says: Read, s: &[u8]) -> Step
+    requires { says ≡ said (read_note s.now) }
+    ensures { Steps mem.old (kept_in m mem.old) (read_note s.now) result mem.new }
 {
     match says {
         Read::Raises(e, o) => step_raises(m, e, o),
-        Read::Books(e, o) => step_books(mem, m, e, o, &note::slot_in_note(venue, s)),
+        Read::Books(e, o) => step_books(mem, m, e, o, &note::slot_in_note(s)),
         Read::Acks(n) => step_acks(mem, m, n),
         Read::Clears => step_clears(m),
         Read::Part => Step::End,
@@ -225,17 +225,17 @@ fn take_note(venue: Venue, mem: &mut [u8; BOOK], m: Counts, says: Read, s: &[u8]
 }
 
 // The notes one by one, their slots and rows into mem.
-fn replay(venue: Venue, mem: &mut [u8; BOOK], notes: &[u8]) -> Restarted
+fn replay(mem: &mut [u8; BOOK], notes: &[u8]) -> Restarted
     requires { length mem.old ≡ book_width }
-    ensures { Replays (restart venue notes.now) result mem.new }
+    ensures { Replays (restart notes.now) result mem.new }
 {
     let mut m = empty_counts();
     let mut at = 0;
     while at < notes.len() {
         let rest = &notes[at..];
-        let first = note::read_note(venue, rest);
+        let first = note::read_note(rest);
         let says = first.says;
-        match take_note(venue, mem, m, says, rest) {
+        match take_note(mem, m, says, rest) {
             Step::On(next) => {
                 m = next;
                 at += first.taken;
@@ -253,36 +253,15 @@ fn replay(venue: Venue, mem: &mut [u8; BOOK], notes: &[u8]) -> Restarted
 
 // A restart into the lent book. The notes are replayed into an array of the call's own, and only the used slots and rows are copied:
 // where a note is unlawful the book stays as it was, and a slot of a day before leaves no trace.
-pub fn restart(venue: Venue, book: &mut [u8; BOOK], notes: &[u8]) -> Restarted
-    ensures { Restarts book.old (restart venue notes.now) result book.new }
+pub fn restart(book: &mut [u8; BOOK], notes: &[u8]) -> Restarted
+    ensures { Restarts book.old (restart notes.now) result book.new }
 {
     let mut mem = [0u8; BOOK];
-    match replay(venue, &mut mem, notes) {
+    match replay(&mut mem, notes) {
         Restarted::Again(counts, whole) => {
             book::put_day(book, wide(counts.last), wide(counts.orders), &mem);
             Restarted::Again(counts, whole)
         }
         Restarted::Unlawful(at) => Restarted::Unlawful(at),
-    }
-}
-
-// The larger of two places.
-fn larger(a: usize, b: usize) -> usize
-    ensures { result ≡ max a b }
-{
-    if a < b { b } else { a }
-}
-
-// A restart from a file of which nobody says whose it is: as Sapphire's, and where that is unlawful as Emerald's. Where both are, the larger place is that of
-// the venue that the file is of.
-pub fn restart_any(book: &mut [u8; BOOK], notes: &[u8]) -> Restarted
-    ensures { Restarts book.old (restart_any notes.now) result book.new }
-{
-    match restart(Venue::Sapphire, book, notes) {
-        Restarted::Again(counts, whole) => Restarted::Again(counts, whole),
-        Restarted::Unlawful(at) => match restart(Venue::Emerald, book, notes) {
-            Restarted::Again(counts, whole) => Restarted::Again(counts, whole),
-            Restarted::Unlawful(other) => Restarted::Unlawful(larger(at, other)),
-        },
     }
 }

@@ -22,7 +22,7 @@ use Rattle.session.specs.Judging.{echoes, word_tag}
 module _ (look : Look) where
   pub facts-listed : (setup : Setup) (s : Session) (scan : Scan) → facts_of setup s scan (at_listed look) ≡ facts_of setup s scan look
   unfolding facts_of at_listed column_of position listed
-  facts-listed setup s scan = ap with-fault (first-fault-listed setup (given_of setup s.phase s.o) scan (kind_by setup look) look)
+  facts-listed setup s scan = ap with-fault (first-fault-listed setup (given_of s.phase s.o) scan (kind_by setup look) look)
     where
       with-fault : Option Fault → Facts
       with-fault o = record {

@@ -89,12 +89,7 @@ pub fn findings_of(setup: Setup, s: Session, body: &[u8], scan: Scan, index: &In
     ensures { facts result ≡ facts_of setup s scan (look_in body.now index.now) }
 {
     let phase = s.phase;
-    let venue = setup.venue();
-    let given = Given {
-        phase,
-        o: s.o,
-        venue,
-    };
+    let given = Given { phase, o: s.o };
     let kind = kind_in(setup, body, index);
     Findings {
         kind,

@@ -4,7 +4,6 @@ pub mod Faultless
 pub mod Messages
 pub mod Listed
 pub mod Meets
-pub mod Former
 pub mod Values
 pub mod Place
 pub mod Unique

@@ -13,22 +13,19 @@ use Rattle.field.specs.Look.{Look, at_listed}
 use Rattle.field.specs.declared.Scan.{Scan}
 use Rattle.field.proofs.Looks.{text-listed, count-listed}
 use Rattle.value.specs.Value.{number_or}
-use Rattle.answer.specs.Setup.{is_emerald}
 use Rattle.answer.specs.declared.Setup.{Setup}
 use Rattle.answer.specs.declared.Fault.{Fault}
 use Rattle.answer.specs.declared.Kind.{Kind}
 use Rattle.answer.specs.declared.Kind.TheVariants as kind
 use Rattle.table.specs.declared.Range.{Range}
-use Rattle.table.specs.declared.Range.TheVariants.{Of, Written, NoneOrFrom, Any, Month, DayOf}
+use Rattle.table.specs.declared.Range.TheVariants.{Of, Written, NoneOrFrom, Any}
 use Rattle.table.specs.declared.Form.{Form}
-use Rattle.table.specs.declared.Form.TheVariants.{Number, Price, Time, Text, Graph, Code, Security, Digits}
-use Rattle.table.specs.declared.Where.{Where}
-use Rattle.table.specs.declared.Where.TheVariants.{Always, Emerald, OptionLeg}
+use Rattle.table.specs.declared.Form.TheVariants.{Number, Price, Time, Text, Graph, Code, Security}
 use Rattle.table.specs.declared.Row.{Row}
 use Rattle.table.specs.declared.Row.TheVariants.{Needs, May}
 use Rattle.table.specs.declared.Given.{Given}
 use Rattle.table.specs.Rows.{table_of}
-use Rattle.table.specs.Steps.{in_range, fits, tag_fault, option_leg, applies, row_fault, walk, scan_fault, kind_fault, first_fault}
+use Rattle.table.specs.Steps.{in_range, fits, tag_fault, row_fault, walk, scan_fault, kind_fault, first_fault}
 
 -- the tags that a row asks for: its own, and the one that its range leans on
 abbrev range_listed : Range → Bool
@@ -36,8 +33,6 @@ range_listed (Of low high) = true
 range_listed Written = true
 range_listed (NoneOrFrom tag) = is_listed tag
 range_listed Any = true
-range_listed Month = true
-range_listed (DayOf tag) = is_listed tag
 
 abbrev form_listed : Form → Bool
 form_listed (Number range) = range_listed range
@@ -47,7 +42,6 @@ form_listed (Text range) = range_listed range
 form_listed (Graph range) = range_listed range
 form_listed (Code codes) = true
 form_listed Security = true
-form_listed (Digits n range) = range_listed range
 
 abbrev row_listed : Row → Bool
 row_listed (Needs tag form place) = is_listed tag && form_listed form
@@ -64,8 +58,6 @@ module _ (given : Given) (look : Look) where
   range_listed_lem Written n l = refl
   range_listed_lem (NoneOrFrom tag) n l = ap (λ (v : List ℕ). eqb n 0 || leb (number_or v) n) (text-listed look tag l)
   range_listed_lem Any n l = refl
-  range_listed_lem Month n l = refl
-  range_listed_lem (DayOf tag) n l = rw (count-listed look tag l, text-listed look tag l)
 
   fits-listed : (form : Form) (v : List ℕ) → form_listed form ≡ true → fits given (at_listed look) form v ≡ fits given look form v
   unfolding fits
@@ -76,7 +68,6 @@ module _ (given : Given) (look : Look) where
   fits-listed (Graph range) v l = range_listed_lem range (length v) l
   fits-listed (Code codes) v l = refl
   fits-listed Security v l = refl
-  fits-listed (Digits n range) v l = range_listed_lem range (number_or v) l
 
   tag-listed : (tag : ℕ) (needed : Bool) (form : Form) → is_listed tag && form_listed form ≡ true
       → tag_fault given (at_listed look) tag needed form ≡ tag_fault given look tag needed form
@@ -85,19 +76,9 @@ module _ (given : Given) (look : Look) where
       let p = and_both (is_listed tag) (form_listed form) l in
       rw (count-listed look tag p.0, text-listed look tag p.0, fits-listed form (look.text tag) p.1)
 
-  -- an option leg is told by listed tags
-  leg-listed : option_leg (at_listed look) ≡ option_leg look
-  unfolding column_of position listed
-  leg-listed = rw (count-listed look 461 refl, text-listed look 442 refl)
-
-  place-listed : (place : Where) → applies given (at_listed look) place ≡ applies given look place
-  place-listed Always = refl
-  place-listed Emerald = refl
-  place-listed OptionLeg = ap (λ (b : Bool). is_emerald given.venue && b) leg-listed
-
   row_listed_lem : (row : Row) → row_listed row ≡ true → row_fault given (at_listed look) row ≡ row_fault given look row
-  row_listed_lem (Needs tag form place) l = rw (place-listed place, tag-listed tag true form l)
-  row_listed_lem (May tag form place) l = rw (place-listed place, tag-listed tag _ form l)
+  row_listed_lem (Needs tag form place) l = rw (tag-listed tag true form l)
+  row_listed_lem (May tag form place) l = rw (tag-listed tag _ form l)
 
   walk-listed : (rows : List Row) → rows_listed rows ≡ true → walk given (at_listed look) rows ≡ walk given look rows
   unfolding walk

@@ -17,7 +17,7 @@ use Rattle.value.specs.Place.{FailsAt, Places}
 use Rattle.value.specs.declared.Check.{Check}
 use Rattle.value.specs.declared.Check.TheVariants as check
 use Rattle.value.proofs.Forms.{checked-bad}
-use Rattle.value.proofs.Place.{number-places, exactly-places, price-places, time-places, graph-places}
+use Rattle.value.proofs.Place.{number-places, price-places, time-places, graph-places}
 use Rattle.field.specs.Pieces.{Pieces, text_at, count_of, scan_of}
 use Rattle.field.specs.Look.{look_of}
 use Rattle.field.specs.declared.Scan.{Scan}
@@ -29,7 +29,7 @@ use Rattle.answer.specs.declared.Fault.{Fault}
 use Rattle.answer.specs.declared.Kind.{Kind}
 use Rattle.answer.specs.declared.Kind.TheVariants as kind
 use Rattle.table.specs.declared.Form.{Form}
-use Rattle.table.specs.declared.Form.TheVariants.{Number, Price, Time, Text, Graph, Code, Security, Digits}
+use Rattle.table.specs.declared.Form.TheVariants.{Number, Price, Time, Text, Graph, Code, Security}
 use Rattle.table.specs.declared.Row.{Row}
 use Rattle.table.specs.declared.Given.{Given}
 use Rattle.table.specs.Rows.{table_of, kind_in, no_row}
@@ -54,7 +54,6 @@ form-places (Text range) = never-fails
 form-places (Graph range) = graph-places
 form-places (Code codes) = never-fails
 form-places Security = never-fails
-form-places (Digits n range) = exactly-places n
 
 -- ---- a fault, if there is one
 
@@ -118,7 +117,7 @@ module _ (given : Given) (ps : Pieces) (row : Row) where
       (λ _. of-cond (SitedIf (Fails ps row)) (eqb n 1) (λ t. check-sited (eqb-true n 1 t) _ refl) (λ _. inr (λ h. omega arith, refl)))
 
   row-sited : SitedIf (Fails ps row) (row_fault given (look_of ps) row)
-  row-sited = of-cond (SitedIf (Fails ps row)) (applies given (look_of ps) (asked_by row).place) (λ _. tag-sited) (λ _. tt)
+  row-sited = of-cond (SitedIf (Fails ps row)) (applies given (asked_by row).place) (λ _. tag-sited) (λ _. tt)
 
 -- ---- the rows, and all of steps 5 to 7
 
@@ -143,7 +142,7 @@ module _ (setup : Setup) (phase : Phase) (o : ℕ) (ps : Pieces) where
       let k : Kind = kind_in setup ps in
       let P = Among ps (table_of setup k) in
       or-sited P (scan_fault (scan_of ps)) _ (scan-sited P (scan_of ps))
-      (or-sited P (kind_fault phase k) _ (kind-sited P phase k) (walk-sited (given_of setup phase o) ps (table_of setup k)))
+      (or-sited P (kind_fault phase k) _ (kind-sited P phase k) (walk-sited (given_of phase o) ps (table_of setup k)))
 
   module _ (f : Fault) (e : fault_in setup phase o ps ≡ some f) where
     sited : Sited (Among ps (table_of setup (kind_in setup ps))) f

@@ -8,7 +8,6 @@ use Rattle.table.specs.Steps.{found}
 use Rattle.octet.proofs.Once.{Once, alone, by, first}
 use Rattle.table.specs.contracts.rows.kind_of as kind-of
 use Rattle.table.specs.contracts.walk.number_at as number_at
-use Rattle.table.specs.contracts.walk.is_option_leg as is-option-leg
 use Rattle.table.specs.contracts.fault_in as fault-in
 
 -- a judgement is known by its fault
@@ -25,9 +24,6 @@ kind-of-once M 𝓤 𝓛 mem run κs a g = (_, λ r e. alone 𝓤)
 
 pub number-at-once : Once number_at.ended (λ M 𝓤. number_at.clauses 𝓤) (λ κs r e. r)
 number-at-once M 𝓤 𝓛 mem run κs a g = (_, λ r e. first 𝓤 _ _)
-
-pub is-option-leg-once : Once is-option-leg.ended (λ M 𝓤. is-option-leg.clauses 𝓤) (λ κs r e. r)
-is-option-leg-once M 𝓤 𝓛 mem run κs a g = (_, λ r e. alone 𝓤)
 
 pub fault-in-once : Once fault-in.ended (λ M 𝓤. fault-in.clauses 𝓤) (λ κs r e. r)
 fault-in-once M 𝓤 𝓛 mem run κs a g = (_, λ r e. by 𝓤 (λ p. sym (judged-found r) ∙ ap judged p))

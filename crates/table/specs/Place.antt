@@ -1,11 +1,11 @@
 -- Reason 6: which value failed which form, and where. Over the forms of a row.
 use Rattle.std.specs.Prelude.{ℕ, ◌<◌, ◌≡◌, List, length, get_or}
-use Rattle.value.specs.Place.{FailsAt, Numeral, NumberForm, PriceForm, TimeForm, GraphForm}
+use Rattle.value.specs.Place.{FailsAt, NumberForm, PriceForm, TimeForm, GraphForm}
 use Rattle.field.specs.Pieces.{Pieces, text_at, count_of}
 use Rattle.answer.specs.declared.Setup.{Setup}
 use Rattle.answer.specs.declared.Fault.{Fault}
 use Rattle.table.specs.declared.Form.{Form}
-use Rattle.table.specs.declared.Form.TheVariants.{Number, Price, Time, Text, Graph, Code, Security, Digits}
+use Rattle.table.specs.declared.Form.TheVariants.{Number, Price, Time, Text, Graph, Code, Security}
 use Rattle.table.specs.Rows.{table_of, kind_in, no_row}
 use Rattle.table.specs.Steps.{asked_by}
 
@@ -18,7 +18,6 @@ Formed (Text range) v = Unit {0}
 Formed (Graph range) v = GraphForm v
 Formed (Code codes) v = Unit {0}
 Formed Security v = Unit {0}
-Formed (Digits n range) v = Numeral n n v
 
 -- a fault of form: a row of the type's table asks for the tag that it names, the tag stands once, and its value fails the row's form at the fault's place
 pub record Misformed (setup : Setup) (ps : Pieces) (f : Fault) : Type 0 where

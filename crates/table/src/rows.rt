@@ -48,23 +48,6 @@ const TIME: Row = Row::Needs(60, Form::Time, Where::Always);
 
 const MULTI_LEG: Row = Row::May(442, Form::Code(Codes::Legs), Where::Always);
 
-// What Emerald asks for beside these: source document 000, section 5.1.
-const AVERAGE_PRICE: Row = Row::Needs(6, Form::Text(Range::Any), Where::Emerald);
-
-const ORDER_OF_CLIENT: Row = Row::Needs(11, Form::Text(Range::Any), Where::Emerald);
-
-const ORDER_TYPE: Row = Row::Needs(40, Form::Text(Range::Any), Where::Emerald);
-
-const ORIGIN: Row = Row::May(204, Form::Code(Codes::Origins), Where::Emerald);
-
-const EXPIRY_MONTH: Row = Row::May(200, Form::Digits(6, Range::Month), Where::OptionLeg);
-
-const EXPIRY_DAY: Row = Row::May(205, Form::Digits(2, Range::DayOf(200)), Where::OptionLeg);
-
-const PUT_OR_CALL: Row = Row::May(201, Form::Code(Codes::PutOrCall), Where::OptionLeg);
-
-const STRIKE: Row = Row::May(202, Form::Price, Where::OptionLeg);
-
 // UCC, source document 003, section 5.2, in its order: the rows that a report has too are the report's own constants.
 const TRANSACTIONS: Row = Row::Needs(20, Form::Code(Codes::Transactions), Where::Always);
 
@@ -138,14 +121,6 @@ fn report_row(i: usize) -> Cell
         11 => Cell::Here(STATUS, columns::STATUS),
         12 => Cell::Here(TIME, columns::TIME),
         13 => Cell::Here(MULTI_LEG, columns::MULTI_LEG),
-        14 => Cell::Here(AVERAGE_PRICE, columns::AVERAGE_PRICE),
-        15 => Cell::Here(ORDER_OF_CLIENT, columns::CLIENT_ORDER),
-        16 => Cell::Here(ORDER_TYPE, columns::ORDER_TYPE),
-        17 => Cell::Here(ORIGIN, columns::ORIGIN),
-        18 => Cell::Here(EXPIRY_MONTH, columns::EXPIRY_MONTH),
-        19 => Cell::Here(EXPIRY_DAY, columns::EXPIRY_DAY),
-        20 => Cell::Here(PUT_OR_CALL, columns::PUT_OR_CALL),
-        21 => Cell::Here(STRIKE, columns::STRIKE),
         _ => Cell::End,
     }
 }

@@ -1,19 +1,19 @@
 // The walk of a table over a body, by the body's index: each row's tag, form and range.
 ghost use Rattle.std.specs.Prelude.{◌≡◌, true, ◌≤◌};
 ghost use Rattle.std.proofs.Math.Option.{none};
-ghost use Rattle.value.specs.Value.{bad_price, day_fits};
+ghost use Rattle.value.specs.Value.{bad_price};
 ghost use Rattle.value.specs.Readers.{checked, code_checked};
 ghost use Rattle.answer.specs.Numbers.{nine_digits};
 ghost use Rattle.field.specs.Index.{column_of};
 ghost use Rattle.field.specs.Look.{look_in};
 ghost use Rattle.table.specs.declared.Form.TheVariants as form;
 ghost use Rattle.table.specs.Rows.{codes_of, table_of, tag_of};
-ghost use Rattle.table.specs.Steps.{number_of, number_there, is_security, in_range, value_check, tag_fault, option_leg, applies, asked_by, row_fault, walk, found};
+ghost use Rattle.table.specs.Steps.{number_of, is_security, in_range, value_check, tag_fault, applies, asked_by, row_fault, walk, found};
 
 use super::rows::row_at;
 use super::{Asked, Cell, Codes, Form, Given, Judgement, Range, Row, Where, faulty};
-use answer::{Fault, Kind, NINE_DIGITS, Setup, reasons, tags};
-use field::{Index, count_at, count_in, value_at, value_in};
+use answer::{Fault, Kind, NINE_DIGITS, Setup, reasons};
+use field::{Index, count_in, value_at, value_in};
 use value::{Check, Number, Price};
 
 // The number of a tag.
@@ -26,22 +26,6 @@ pub fn number_at(body: &[u8], index: &Index, tag: u32) -> u32
         return 0;
     }
     value::number_of(v)
-}
-
-// No month has a later day.
-const LAST_DAY: usize = 31;
-
-// Whether a number is a day of the month that a tag says, where it is there.
-fn is_day_by(body: &[u8], index: &Index, tag: u32, n: usize) -> bool
-    ensures { result ≡ day_fits (number_there (look_in body.now index.now) tag) n }
-{
-    if LAST_DAY < n {
-        return false;
-    }
-    if count_at(body, index, tag) == 0 {
-        return value::is_day_of(false, 0, n as u32);
-    }
-    value::is_day_of(true, number_at(body, index, tag), n as u32)
 }
 
 // Whether a number, or a text's length, is in range.
@@ -68,8 +52,6 @@ fn is_in_range(body: &[u8], index: &Index, given: Given, range: Range, n: usize)
             number_at(body, index, tag) as usize <= n
         }
         Range::Any => true,
-        Range::Month => value::is_month((n % 100) as u32),
-        Range::DayOf(tag) => is_day_by(body, index, tag, n),
     }
 }
 
@@ -88,26 +70,6 @@ fn check_number(body: &[u8], index: &Index, given: Given, range: Range, v: &[u8]
         Number::Value(n) => fitted(is_in_range(body, index, given, range, n as usize)),
         Number::BadForm(at) => Check::BadForm(at),
         Number::OutOfRange => Check::OutOfRange,
-    }
-}
-
-// Exactly so many digits, and the range.
-fn check_digits(
-    body: &[u8],
-    index: &Index,
-    given: Given,
-    size: usize,
-    range: Range,
-    v: &[u8],
-) -> Check
-    ensures { result ≡ value_check given (look_in body.now index.now) (form.Digits size range) v.now }
-{
-    match value::read_exactly(v, size) {
-        Check::Good => {
-            fitted(is_in_range(body, index, given, range, value::number_of(v) as usize))
-        }
-        Check::BadForm(at) => Check::BadForm(at),
-        Check::OutOfRange => Check::OutOfRange,
     }
 }
 
@@ -145,8 +107,6 @@ fn check_code(codes: Codes, v: &[u8]) -> Check
         Codes::Legs => value::read_code(v, b"23"),
         Codes::Transactions => value::read_code(v, b"012"),
         Codes::Corrections => value::read_code(v, b"12345"),
-        Codes::Origins => value::read_code(v, &value::ORIGINS),
-        Codes::PutOrCall => value::read_code(v, &value::PUTS_OR_CALLS),
     }
 }
 
@@ -172,34 +132,15 @@ fn check_value(body: &[u8], index: &Index, given: Given, form: Form, v: &[u8]) -
         Form::Graph(range) => check_graph(body, index, given, range, v),
         Form::Code(codes) => check_code(codes, v),
         Form::Security => fitted(is_security(v)),
-        Form::Digits(size, range) => check_digits(body, index, given, size, range, v),
     }
-}
-
-// An option leg: no `461=` field, and the first `442=` is not `3`.
-pub fn is_option_leg(body: &[u8], index: &Index) -> bool
-    ensures { result ≡ option_leg (look_in body.now index.now) }
-{
-    if count_at(body, index, tags::STOCK_LEG) != 0 {
-        return false;
-    }
-    !octet::same(b"3", value_at(body, index, tags::MULTI_LEG))
 }
 
 // Whether a row is asked for.
-fn applies(place: Where, given: Given, body: &[u8], index: &Index) -> bool
-    ensures { result ≡ applies given (look_in body.now index.now) place }
+fn applies(place: Where, given: Given) -> bool
+    ensures { result ≡ applies given place }
 {
-    let venue = given.venue;
     match place {
         Where::Always => true,
-        Where::Emerald => venue.is_emerald(),
-        Where::OptionLeg => {
-            if !venue.is_emerald() {
-                return false;
-            }
-            is_option_leg(body, index)
-        }
     }
 }
 
@@ -263,29 +204,19 @@ fn row_fault(body: &[u8], index: &Index, given: Given, row: Row, column: usize) 
 {
     let asked = asked_by(row);
     let place = asked.place;
-    if !applies(place, given, body, index) {
+    if !applies(place, given) {
         return Judgement::Fine;
     }
     let form = asked.form;
     tag_fault(body, index, given, asked.tag, column, asked.needed, form)
 }
 
-// So many rows, the header's and then a type's own, are both venues'; what stands after them is Emerald's.
-const COMMON: usize = 17;
-
-// "The table of its type, top down". At Sapphire it ends where Emerald's rows begin.
+// "The table of its type, top down".
 pub(crate) fn walk(setup: Setup, given: Given, kind: Kind, body: &[u8], index: &Index) -> Judgement
     ensures { found result ≡ walk given (look_in body.now index.now) (table_of setup kind) }
 {
-    let venue = given.venue;
-    let emerald = venue.is_emerald();
     let mut i: usize = 0;
     loop {
-        if COMMON <= i {
-            if !emerald {
-                return Judgement::Fine;
-            }
-        }
         let cell = row_at(setup, kind, i);
         let Cell::Here(row, column) = cell else {
             return Judgement::Fine;

@@ -17,7 +17,7 @@ use Rattle.text.specs.declared.Text.{Text}
 use Rattle.text.proofs.Decimals.{decimal-length}
 use Rattle.text.proofs.Puts.{held-short}
 use Rattle.book.specs.Place.{most_orders}
-use Rattle.restart.specs.Restart.{Outcome, Again, Unlawful, restart_any, told, counts_of}
+use Rattle.restart.specs.Restart.{Outcome, Again, Unlawful, restart, told, counts_of}
 use Rattle.restart.specs.declared.Counts.{Counts}
 use Rattle.restart.specs.declared.Restarted.TheVariants as restarted
 use Rattle.queue.specs.declared.Marks.{Marks}
@@ -108,11 +108,11 @@ totals-by m b p e = ap (totals_by m b) e
 
 pub totals-long : (book notes : List ℕ) → longest_file < length notes → totals_of book notes ≡ too_long
 unfolding totals_of
-totals-long book notes h = cond-true (is_too_long notes) too_long (totals_for (book_listed book notes) (restart_any notes)) (lt-ltb longest_file (length notes) h)
+totals-long book notes h = cond-true (is_too_long notes) too_long (totals_for (book_listed book notes) (restart notes)) (lt-ltb longest_file (length notes) h)
 
-pub totals-is : (book notes : List ℕ) → length notes ≤ longest_file → totals_of book notes ≡ totals_for (book_listed book notes) (restart_any notes)
+pub totals-is : (book notes : List ℕ) → length notes ≤ longest_file → totals_of book notes ≡ totals_for (book_listed book notes) (restart notes)
 unfolding totals_of
-totals-is book notes h = cond-false (is_too_long notes) too_long (totals_for (book_listed book notes) (restart_any notes)) (le-ltb longest_file (length notes) h)
+totals-is book notes h = cond-false (is_too_long notes) too_long (totals_for (book_listed book notes) (restart notes)) (le-ltb longest_file (length notes) h)
 
 never : {A : Type 0} → ◌≡◌ {A = ℕ} 0 1 → A
 never z = absurd (omega arith)

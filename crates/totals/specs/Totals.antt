@@ -7,7 +7,7 @@ use Rattle.text.specs.Decimal.{decimal}
 use Rattle.fill.specs.Slot.{line_feed}
 use Rattle.book.specs.Place.{most_orders}
 use Rattle.note.specs.Notes.{written}
-use Rattle.restart.specs.Restart.{Outcome, Again, Unlawful, restart_any, counts_of, load_in}
+use Rattle.restart.specs.Restart.{Outcome, Again, Unlawful, restart, counts_of, load_in}
 use Rattle.restart.specs.declared.Counts.{Counts}
 use Rattle.queue.specs.Queue.{marks_again}
 use Rattle.queue.specs.declared.Marks.{Marks}
@@ -48,7 +48,7 @@ totals_for book (Again q whole) = totals_in (marks_from (counts_of q)) book
 
 -- the text for a lent book and a file of notes
 unfoldable pub totals_of : List ℕ → List ℕ → List ℕ
-totals_of book notes = cond (is_too_long notes) too_long (totals_for (book_listed book notes) (restart_any notes))
+totals_of book notes = cond (is_too_long notes) too_long (totals_for (book_listed book notes) (restart notes))
 
 -- no line of a row has more bytes: an OrderID of 30, a space, ten digits and a line feed
 abbrev pub most_row_line : ℕ

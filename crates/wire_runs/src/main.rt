@@ -1,7 +1,7 @@
 // Writes one message of each kind, and replies of two messages, each on a line after the count of the numbers it uses; byte 1 is shown as `|`.
 // The expected bytes were laid out by hand, apart from the code, and QuickFIX reads each message as written (tests/engine/run).
 use answer::reasons::WRONG_FORM;
-use answer::{BAR, Fault, Id, LARGEST, LAST_SEQUENCE, LAST_TO_SEND, Setup, Venue};
+use answer::{BAR, Fault, Id, LARGEST, LAST_SEQUENCE, LAST_TO_SEND, Setup};
 use wire::{Reply, Say};
 
 fn id(s: &[u8]) -> Id {
@@ -31,7 +31,7 @@ fn bars(s: &mut [u8]) {
 fn show(r: Reply, o: u32, word: &[u8]) {
     let setup = Setup {
         ours: id(b"FIRM"),
-        venue: Venue::Sapphire,
+        theirs: id(b"SAPPHIRE-DROP-01"),
     };
     let mut reply = [238u8; 512];
     let n = wire::write_reply(setup, o, b"20250108-14:30:01.000", word, r, &mut reply);

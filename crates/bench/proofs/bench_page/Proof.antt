@@ -71,7 +71,7 @@ use Rattle.bench.proofs.bench_page.Code as code
 
 -- the book, an array
 abbrev Book : RattleType
-Book = Array u8 88320
+Book = Array u8 73728
 
 abbrev stayed : Stays (f.ended).signature.params (f.ended).kept
 stayed = (stay_none (λ _. u32) yes, (stay_none (λ _. u32) yes, (stay_none (λ _. u32) yes, (stay_none_ref (0 ∷ []) tt (plain (λ _. Book)) yes, (gave_slice (1 ∷ []) tt (plain (λ _. T.the_row)), tt)))))

@@ -70,7 +70,7 @@ use Rattle.bench.proofs.lend.Code as code
 
 -- the book, an array
 abbrev Book : RattleType
-Book = Array u8 88320
+Book = Array u8 73728
 
 abbrev stayed : Stays (f.ended).signature.params (f.ended).kept
 stayed = (stay_none (λ _. Setup.the_row) yes, (stay_none (λ _. State.the_row) yes, (stay_none (λ _. Tally.the_row) yes, (stay_none_slice (0 ∷ []) tt (plain (λ _. u8)) yes, (stay_none_slice (1 ∷ []) tt (plain (λ _. u8)) yes, (gave_ref (2 ∷ []) tt (plain (λ _. Book)), (gave_slice (3 ∷ []) tt (plain (λ _. u8)), (gave_slice (4 ∷ []) tt (plain (λ _. u8)), tt))))))))

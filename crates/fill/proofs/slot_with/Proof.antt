@@ -18,7 +18,7 @@ returns c =
     let exec = order.before.before.before in
     let start = exec.before.before.before.before.before.before in
     let small : start.args.side < 256 = omega (arith, start.ranges) in
-    slot-made _ _ _ _ _ _ _ _ _ _ refl small
+    slot-made _ _ _ _ _ _ _ _ _ _ _ refl small
     exec.put-text.ensures order.put-text2.ensures symbol.put-text3.ensures refl
     quantity.put_four.ensures.1 shares.put-four2.ensures.1 price.put-eight.ensures.1 cum.put-four3.ensures.1
     time.put-time.ensures

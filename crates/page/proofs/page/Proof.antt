@@ -83,7 +83,7 @@ use Rattle.page.proofs.page.Code.Mir as mir
 
 -- the book, an array
 abbrev Book : RattleType
-Book = Array u8 88320
+Book = Array u8 73728
 
 abbrev stayed : Stays (f.ended).signature.params (f.ended).kept
 stayed = (stay_none (λ _. Marks.the_row) yes, (stay_none_ref (0 ∷ []) tt (plain (λ _. Book)) yes, (stay_slice (1 ∷ []) tt (plain (λ _. T.the_row)), tt)))

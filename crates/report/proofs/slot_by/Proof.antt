@@ -1,4 +1,4 @@
--- The common part of the slot of a fill, by the sums that were read.
+-- The slot of a fill, by the sums that were read.
 use borrow.Author.Rules.{rules}
 use mathlib.Core.Path.{ap}
 use Rattle.field.specs.Look.{look_in}

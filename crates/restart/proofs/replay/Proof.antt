@@ -16,15 +16,15 @@ use Rattle.restart.proofs.replay.Statement.{statement}
 use Rattle.restart.proofs.replay.Tie as tie
 
 abbrev invariant-loop : tie.invariant-loop
-invariant-loop venue mem₀ notes m₀ at₀ mem m at = (restart venue notes ≡ go venue (kept_in m mem) at (drop at notes)) × (at ≤ length notes) × (length mem ≡ book_width)
+invariant-loop mem₀ notes m₀ at₀ mem m at = (restart notes ≡ go (kept_in m mem) at (drop at notes)) × (at ≤ length notes) × (length mem ≡ book_width)
 
 abbrev decreases-loop : tie.decreases-loop
-decreases-loop venue mem₀ notes m₀ at₀ mem m at = length notes - at
+decreases-loop mem₀ notes m₀ at₀ mem m at = length notes - at
 
 loop-holds : tie.Need-loop-init invariant-loop decreases-loop
 loop-holds c =
     let a = c.before.before.args in
-    (start a.venue a.notes.now a.mem.now _ c.empty-counts.ensures, omega arith, omega arith)
+    (start a.notes.now a.mem.now _ c.empty-counts.ensures, omega arith, omega arith)
 
 take-note-requires : tie.Need-take-note-requires invariant-loop decreases-loop
 take-note-requires c κs = ap (λ (x : First). x.says) c.before.read-note.ensures
@@ -32,71 +32,64 @@ take-note-requires c κs = ap (λ (x : First). x.says) c.before.read-note.ensure
 add_at : tie.Need-overflow-add-at invariant-loop decreases-loop
 add_at c =
     let h = c.before.before.before.before.before.before.before.before.before in
-    let a = c.before.before.before.before.before.before.before.before.before.before.before.before.args in
-    let l = a.notes.now in
+    let l = c.before.before.before.before.before.before.before.before.before.before.before.before.args.notes.now in
     let i = h.loop.at in
     let taken = ap (λ (x : First). x.taken) c.before.before.before.before.before.before.read-note.ensures in
     let st = c.before.before.before.before.take-note in
     let v = h.loop.invariant in
     let does = sym c.before.before.next.given.1 ∙ st.ensures.0 in
-    let g = turn_on a.venue l _ (restart a.venue l) h.loop.m h.loop.mem st.new.1.0 i (part-rest l i) v.0 v.2 v.1 does st.ensures.1 taken in
+    let g = turn_on l _ (restart l) h.loop.m h.loop.mem st.new.0 i (part-rest l i) v.0 v.2 v.1 does st.ensures.1 taken in
     omega (arith, g.1)
 
 loop-less : tie.Need-loop-smaller invariant-loop decreases-loop
 loop-less c =
     let h = c.before.before.before.before.before.before.before.before.before in
-    let a = c.before.before.before.before.before.before.before.before.before.before.before.before.args in
-    let l = a.notes.now in
+    let l = c.before.before.before.before.before.before.before.before.before.before.before.before.args.notes.now in
     let i = h.loop.at in
     let taken = ap (λ (x : First). x.taken) c.before.before.before.before.before.before.read-note.ensures in
     let st = c.before.before.before.before.take-note in
     let v = h.loop.invariant in
     let does = sym c.before.before.next.given.1 ∙ st.ensures.0 in
-    let g = turn_on a.venue l _ (restart a.venue l) h.loop.m h.loop.mem st.new.1.0 i (part-rest l i) v.0 v.2 v.1 does st.ensures.1 taken in
+    let g = turn_on l _ (restart l) h.loop.m h.loop.mem st.new.0 i (part-rest l i) v.0 v.2 v.1 does st.ensures.1 taken in
     omega (arith, g.1, g.2)
 
 loop-again : tie.Need-loop-preserved invariant-loop decreases-loop
 loop-again c =
     let h = c.before.before.before.before.before.before.before.before.before in
-    let a = c.before.before.before.before.before.before.before.before.before.before.before.before.args in
-    let l = a.notes.now in
+    let l = c.before.before.before.before.before.before.before.before.before.before.before.before.args.notes.now in
     let i = h.loop.at in
     let taken = ap (λ (x : First). x.taken) c.before.before.before.before.before.before.read-note.ensures in
     let st = c.before.before.before.before.take-note in
     let v = h.loop.invariant in
     let does = sym c.before.before.next.given.1 ∙ st.ensures.0 in
-    let g = turn_on a.venue l _ (restart a.venue l) h.loop.m h.loop.mem st.new.1.0 i (part-rest l i) v.0 v.2 v.1 does st.ensures.1 taken in
-    (g.0, g.1, ap length st.ensures.1 ∙ mem-length h.loop.mem (kept_in h.loop.m h.loop.mem) (read_note a.venue _) ∙ v.2)
+    let g = turn_on l _ (restart l) h.loop.m h.loop.mem st.new.0 i (part-rest l i) v.0 v.2 v.1 does st.ensures.1 taken in
+    (g.0, g.1, ap length st.ensures.1 ∙ mem-length h.loop.mem (kept_in h.loop.m h.loop.mem) (read_note _) ∙ v.2)
 
 returns : tie.Need-returns invariant-loop decreases-loop
 returns c =
     let h = c.before.before.before.before.before.before.before in
-    let a = c.before.before.before.before.before.before.before.before.before.before.args in
-    let l = a.notes.now in
+    let l = c.before.before.before.before.before.before.before.before.before.before.args.notes.now in
     let i = h.loop.at in
     let st = c.before.before.take-note in
     let v = h.loop.invariant in
-    let g = turn_end a.venue l _ (restart a.venue l) h.loop.m h.loop.mem st.new.1.0 i (part-rest l i) v.0
-    (sym c.enum_told.given.1 ∙ st.ensures.0) st.ensures.1 in
-    (g.0, g.1, ap length st.ensures.1 ∙ mem-length h.loop.mem (kept_in h.loop.m h.loop.mem) (read_note a.venue _) ∙ v.2)
+    let g = turn_end l _ (restart l) h.loop.m h.loop.mem st.new.0 i (part-rest l i) v.0 (sym c.enum_told.given.1 ∙ st.ensures.0) st.ensures.1 in
+    (g.0, g.1, ap length st.ensures.1 ∙ mem-length h.loop.mem (kept_in h.loop.m h.loop.mem) (read_note _) ∙ v.2)
 
 returns-2 : tie.Need-returns-2 invariant-loop decreases-loop
 returns-2 c =
     let h = c.before.before.before.before.before.before.before in
-    let a = c.before.before.before.before.before.before.before.before.before.before.args in
-    let l = a.notes.now in
+    let l = c.before.before.before.before.before.before.before.before.before.before.args.notes.now in
     let i = h.loop.at in
     let st = c.before.before.take-note in
     let v = h.loop.invariant in
-    let g = turn-bad a.venue l _ (restart a.venue l) h.loop.m h.loop.mem st.new.1.0 i (part-rest l i) v.0 (sym c.enum-told2.given.1 ∙ st.ensures.0) in
-    (g.0, g.1, ap length st.ensures.1 ∙ mem-length h.loop.mem (kept_in h.loop.m h.loop.mem) (read_note a.venue _) ∙ v.2)
+    let g = turn-bad l _ (restart l) h.loop.m h.loop.mem st.new.0 i (part-rest l i) v.0 (sym c.enum-told2.given.1 ∙ st.ensures.0) in
+    (g.0, g.1, ap length st.ensures.1 ∙ mem-length h.loop.mem (kept_in h.loop.m h.loop.mem) (read_note _) ∙ v.2)
 
 returns-3 : tie.Need-returns-3 invariant-loop decreases-loop
 returns-3 c =
     let h = c.before in
-    let a = c.before.before.before.before.args in
-    let l = a.notes.now in
-    let g = turns-done a.venue l (restart a.venue l) h.loop.m h.loop.mem h.loop.at h.loop.invariant.0 (omega arith) in
+    let l = c.before.before.before.before.args.notes.now in
+    let g = turns-done l (restart l) h.loop.m h.loop.mem h.loop.at h.loop.invariant.0 (omega arith) in
     (g.0, g.1, h.loop.invariant.2)
 
 pub replay-spec : {M : Type 1} → statement M

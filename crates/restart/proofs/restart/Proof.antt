@@ -18,15 +18,15 @@ returns c =
     let book = a.book.now in
     let e = sym c.before.before.before.before.before.before.counts.given.1 ∙ r.ensures.0 in
     let after = c.put-day.ensures.0
-    ∙ ap₂ (λ (k n : ℕ). holding book (slots_in k r.new.1.0) (rows_in n r.new.1.0)) c.before.before.before.wide.ensures.0 c.before.before.wide2.ensures.0
-    ∙ book-is (restart a.venue l) book r.new.1.0 _ _ (length l) e (restart-given a.venue l) r.ensures.1 in
-    (e, after, slots-there (restart a.venue l) book _ (length l) (restart-given a.venue l) after c.put-day.ensures.1)
+    ∙ ap₂ (λ (k n : ℕ). holding book (slots_in k r.new.0) (rows_in n r.new.0)) c.before.before.before.wide.ensures.0 c.before.before.wide2.ensures.0
+    ∙ book-is (restart l) book r.new.0 _ _ (length l) e (restart-given l) r.ensures.1 in
+    (e, after, slots-there (restart l) book _ (length l) (restart-given l) after c.put-day.ensures.1)
 
 returns-2 : tie.Need-returns-2
 returns-2 c =
     let a = c.before.before.before.before.before.before.args in
     let e = sym c.before.at.given.1 ∙ c.before.before.before.replay.ensures.0 in
-    (e, book-stays (restart a.venue a.notes.now) a.book.now _ e, slots-none (restart a.venue a.notes.now) _ _ e)
+    (e, book-stays (restart a.notes.now) a.book.now _ e, slots-none (restart a.notes.now) _ _ e)
 
 pub restart-spec : {M : Type 1} → statement M
 restart-spec =

@@ -16,8 +16,8 @@ returns c =
     let m = a.mem.now in
     let s = a.s.now in
     let q = kept_in a.m m in
-    let r = was_read a.venue s _ pre ∙ ap (untold a.venue s) c.before.before.says.given.1 in
-    take_whole a.venue q m s r (c.step-raises.ensures ∙ any-raises a.m m _ _) (mem-raises m q _ _)
+    let r = was_read s _ pre ∙ ap (untold s) c.before.before.says.given.1 in
+    take_whole q m s r (c.step-raises.ensures ∙ any-raises a.m m _ _) (mem-raises m q _ _)
 
 returns-2 : tie.Need-returns-2
 returns-2 c =
@@ -26,8 +26,8 @@ returns-2 c =
     let m = a.mem.now in
     let s = a.s.now in
     let q = kept_in a.m m in
-    let r = was_read a.venue s _ pre ∙ ap (untold a.venue s) c.before.before.before.before.before.says2.given.1 in
-    take-books a.venue q m s c.before.before.slot-in-note.ensures r (c.step-books.ensures _).0 (c.step-books.ensures _).1
+    let r = was_read s _ pre ∙ ap (untold s) c.before.before.before.before.before.says2.given.1 in
+    take-books q m s c.before.before.slot-in-note.ensures r c.step-books.ensures.0 c.step-books.ensures.1
 
 returns-3 : tie.Need-returns-3
 returns-3 c =
@@ -36,8 +36,8 @@ returns-3 c =
     let m = a.mem.now in
     let s = a.s.now in
     let q = kept_in a.m m in
-    let r = was_read a.venue s _ pre ∙ ap (untold a.venue s) c.before.before.before.says3.given.1 in
-    take_whole a.venue q m s r c.step-acks.ensures.0 c.step-acks.ensures.1
+    let r = was_read s _ pre ∙ ap (untold s) c.before.before.before.says3.given.1 in
+    take_whole q m s r c.step-acks.ensures.0 c.step-acks.ensures.1
 
 returns-4 : tie.Need-returns-4
 returns-4 c =
@@ -46,8 +46,8 @@ returns-4 c =
     let m = a.mem.now in
     let s = a.s.now in
     let q = kept_in a.m m in
-    let r = was_read a.venue s _ pre ∙ ap (untold a.venue s) c.before.enum_told.given.1 in
-    take_whole a.venue q m s r (c.step-clears.ensures ∙ any-clears a.m m) (mem-clears m q)
+    let r = was_read s _ pre ∙ ap (untold s) c.before.enum_told.given.1 in
+    take_whole q m s r (c.step-clears.ensures ∙ any-clears a.m m) (mem-clears m q)
 
 returns-5 : tie.Need-returns-5
 returns-5 c =
@@ -56,7 +56,7 @@ returns-5 c =
     let m = a.mem.now in
     let s = a.s.now in
     let q = kept_in a.m m in
-    let r = was_read a.venue s _ pre ∙ ap (untold a.venue s) c.enum-told2.given.1 in
+    let r = was_read s _ pre ∙ ap (untold s) c.enum-told2.given.1 in
     (sym (ap (step_read q) r), sym (ap (mem_read m q) r))
 
 returns-6 : tie.Need-returns-6
@@ -66,7 +66,7 @@ returns-6 c =
     let m = a.mem.now in
     let s = a.s.now in
     let q = kept_in a.m m in
-    let r = was_read a.venue s _ pre ∙ ap (untold a.venue s) c.enum-told3.given.1 in
+    let r = was_read s _ pre ∙ ap (untold s) c.enum-told3.given.1 in
     (sym (ap (step_read q) r), sym (ap (mem_read m q) r))
 
 pub take-note-spec : {M : Type 1} → statement M

@@ -9,7 +9,6 @@ use Rattle.text.specs.declared.Text.{Text}
 use Rattle.text.proofs.Puts.{puts-puts}
 use Rattle.answer.specs.Setup.{id_of, ours, theirs}
 use Rattle.answer.specs.declared.Id.{Id}
-use Rattle.answer.proofs.Agreed.{agreed}
 use Rattle.wire.specs.Messages.{type_of, sequence_of}
 use borrow.Author.Rules.{rules}
 use Rattle.wire.proofs.lead.Statement.{statement}
@@ -38,8 +37,7 @@ returns c =
     (l.letter_at.ensures ∙ ap (λ (v : List ℕ). puts t (field_bytes (35 is v))) (sym l.before.type-of.ensures))
     (n.number_at.ensures ∙ ap (λ (k : ℕ). puts u (field_bytes (34 is decimal k))) n.before.sequence-of.ensures)
     (c.before.before.with-id.ensures ∙ ap (λ (id : Id). puts v (field_bytes (49 is id_of id))) s.before.ours.ensures)
-    (c.with-id2.ensures ∙ ap (λ (id : Id). puts w (field_bytes (56 is id_of id))) s.theirs.ensures
-    ∙ ap (λ (v : List ℕ). puts w (field_bytes (56 is v))) (agreed a.setup.venue))
+    (c.with-id2.ensures ∙ ap (λ (id : Id). puts w (field_bytes (56 is id_of id))) s.theirs.ensures)
 
 pub lead-spec : {M : Type 1} → statement M
 lead-spec =

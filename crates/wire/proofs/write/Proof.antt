@@ -14,7 +14,6 @@ use Rattle.text.specs.declared.Text.{Text}
 use Rattle.text.proofs.Puts.{puts-puts, puts-length, put_front}
 use Rattle.text.proofs.Layouts.{layout-append}
 use Rattle.frame.specs.Finding.{opening}
-use Rattle.answer.proofs.Agreed.{agreed-good}
 use Rattle.wire.specs.Messages.{framed, header_of, fields_of, message_of}
 use Rattle.wire.specs.Sending.{Sent}
 use Rattle.wire.proofs.Bounds.{body-short, framed-length}
@@ -24,6 +23,9 @@ use Rattle.wire.proofs.write.Tie as tie
 
 ours : (c : tie.Start) → length c.args.setup.ours.bytes ≡ 16
 ours c = search rules
+
+theirs : (c : tie.Start) → length c.args.setup.theirs.bytes ≡ 16
+theirs c = search rules
 
 reply-bound : (c : tie.After-slice-known) → length c.before.before.before.args.reply.now < 2 ^ 64
 reply-bound c = omega arith
@@ -49,7 +51,7 @@ short : (c : tie.After-with-others) → length (Body c) ≤ 201
 short c =
     let s = start c in
     let a = s.args in
-    body-short a.setup (simp length-take (omega (arith, ours s))) (omega (arith, (agreed-good a.setup.venue).0)) a.o (omega arith) a.time.now a.say c.with-others.ensures.1 a.word.now
+    body-short a.setup (simp length-take (omega (arith, ours s))) (simp length-take (omega (arith, theirs s))) a.o (omega arith) a.time.now a.say c.with-others.ensures.1 a.word.now
 
 whole : (c : tie.After-with-others) → text_with c.with-others.new.0 c.with-others.result ≡ puts (text_with blank 0) (Body c)
 unfolding header_of

@@ -14,7 +14,7 @@ returns c =
     let booked = c.before.before.before.before.before.before.booked-in.ensures ∙ ap booked_in c.before.before.before.before.before.before.before.row-at2.ensures in
     let waits = c.before.before.before.Waits-in.ensures ∙ ap waits_in c.before.before.before.before.row-at3.ensures in
     c.put-row.ensures
-    ∙ fewer-old a.book.now a.row a.orders _ _ _ a.q c.before.before.before.before.before.before.before.before.before.before.before.before.if1.true first booked (c.before.less.ensures ∙ ap (λ (n : ℕ). n - a.q) waits)
+    ∙ fewer-old a.book.now a.row a.orders _ _ _ a.q (omega arith) first booked (c.before.less.ensures ∙ ap (λ (n : ℕ). n - a.q) waits)
 
 returns-2 : tie.Need-returns-2
 returns-2 c = let a = c.before.args in fewer-out a.book.now a.row a.orders a.q (omega arith)

@@ -17,7 +17,7 @@ returns c =
     let booked = c.before.before.before.before.before.before.before.booked-in.ensures ∙ ap booked_in c.before.before.before.before.before.before.before.before.row-at2.ensures in
     let waits = c.before.before.before.before.Waits-in.ensures ∙ ap waits_in c.before.before.before.before.before.row-at3.ensures in
     c.put-row.ensures
-    ∙ more-old a.book.now a.row a.orders _ _ _ a.count a.slot.now c.before.before.before.before.before.before.before.before.before.before.before.before.before.if1.true first
+    ∙ more-old a.book.now a.row a.orders _ _ _ a.count a.slot.now (omega arith) first
     (c.before.before.count-on.ensures ∙ ap₂ counted booked q) (c.before.count-on2.ensures ∙ ap₂ counted waits q)
 
 returns-2 : tie.Need-returns-2

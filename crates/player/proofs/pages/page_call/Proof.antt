@@ -78,7 +78,7 @@ use Rattle.player.proofs.pages.page_call.Code as code
 
 -- the book, an array
 abbrev Book : RattleType
-Book = Array u8 88320
+Book = Array u8 73728
 
 -- our rows, an array
 abbrev Rows : RattleType

@@ -11,7 +11,6 @@ returns c =
       c.before.before.before.before.before.before.before.sequence.ensures,
       c.before.before.before.before.before.before.ids-fault.ensures,
       c.before.before.before.before.before.fault-in.ensures,
-      c.before.before.before.before.before.before.before.before.before.venue.ensures,
       c.before.before.before.before.before.before.before.before.kind-in.ensures,
       c.before.before.before.before.is-yes.ensures,
       c.before.before.before.is-yes2.ensures,
@@ -24,7 +23,6 @@ pub findings-of-spec : {M : Type 1} → statement M
 findings-of-spec =
     tie.close
     (tie.spec
-    (λ c κs. search rules)
     (λ c κs. search rules)
     (λ c κs. search rules)
     (λ c κs. search rules)

@@ -1,21 +1,15 @@
 -- `session::reading::ids_fault` meets its contract: 49, then 56.
 use borrow.Author.Rules.{rules}
 use borrow.Author.Tests.{not-true, not-false}
-use mathlib.Core.Path.{◌≡◌, ap, ◌∙◌}
-use mathlib.Core.List.{List}
-use Prim.Native.Nat.{ℕ}
+use mathlib.Core.Path.{◌≡◌}
 use Rattle.field.specs.Pieces.{is_that}
 use Rattle.field.specs.Look.{look_in, first}
-use Rattle.answer.specs.Setup.{id_of, ours, theirs}
-use Rattle.answer.proofs.Agreed.{agreed}
+use Rattle.answer.specs.Setup.{ours, theirs}
 use Rattle.session.proofs.reading.ids_fault.Statement.{statement}
 use Rattle.session.proofs.reading.ids_fault.Tie as tie
 
 sender : (c : tie.After-has-id) → let a = c.before.before.before.args in c.has-id.result ≡ is_that (theirs a.setup) (first (look_in a.body.now a.index.now) 49)
-sender c =
-    let a = c.before.before.before.args in
-    let first49 = first (look_in a.body.now a.index.now) 49 in
-    c.has-id.ensures ∙ ap (λ (v : List ℕ). is_that v first49) (ap id_of c.before.theirs.ensures ∙ agreed a.setup.venue)
+sender c = rw (← c.before.theirs.ensures) c.has-id.ensures
 
 target : (c : tie.After-has-id2) → let a = c.before.before.before.before.before.before.args in c.has-id2.result ≡ is_that (ours a.setup) (first (look_in a.body.now a.index.now) 56)
 target c = rw (← c.before.ours.ensures) c.has-id2.ensures

@@ -5,8 +5,8 @@ use Rattle.table.proofs.Walks.{passed, cell-past}
 use Rattle.table.proofs.rows.report_row.Statement.{statement}
 use Rattle.table.proofs.rows.report_row.Tie as tie
 
-past : tie.Need-returns-23
-past c = cell-past report_rows c.before.args.i (passed 22 _ c.match.rest)
+past : tie.Need-returns-15
+past c = cell-past report_rows c.before.args.i (passed 14 _ c.match.rest)
 
 pub report-row-spec : {M : Type 1} → statement M
 unfolding column_of position listed
@@ -27,12 +27,4 @@ report-row-spec =
     (λ c. rw c.match.keys12)
     (λ c. rw c.match.keys13)
     (λ c. rw c.match.keys14)
-    (λ c. rw c.match.keys15)
-    (λ c. rw c.match.keys16)
-    (λ c. rw c.match.keys17)
-    (λ c. rw c.match.keys18)
-    (λ c. rw c.match.keys19)
-    (λ c. rw c.match.keys20)
-    (λ c. rw c.match.keys21)
-    (λ c. rw c.match.keys22)
     past)

@@ -27,22 +27,10 @@ returns-7 c = rw c.before.before.enum-told7.given.1 c.read-code7.ensures
 returns-8 : tie.Need-returns-8
 returns-8 c = rw c.before.before.enum-told8.given.1 c.read-code8.ensures
 
-returns-9 : tie.Need-returns-9
-returns-9 c = rw c.before.before.enum-told9.given.1 c.read-code9.ensures
-
-returns-10 : tie.Need-returns-10
-returns-10 c = rw c.before.before.enum-told10.given.1 c.read-code10.ensures
-
 pub check-code-spec : {M : Type 1} → statement M
 check-code-spec =
     tie.close
     (tie.spec
-    (λ c. search rules)
-    (λ c. search rules)
-    (λ c κs. search rules)
-    (λ c. search rules)
-    (λ c. search rules)
-    (λ c κs. search rules)
     (λ c. search rules)
     (λ c. search rules)
     (λ c κs. search rules)
@@ -74,6 +62,4 @@ check-code-spec =
     returns-5
     returns-6
     returns-7
-    returns-8
-    returns-9
-    returns-10)
+    returns-8)

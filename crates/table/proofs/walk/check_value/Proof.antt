@@ -33,9 +33,6 @@ returns-7 : tie.Need-returns-7
 unfolding bad_form fits
 returns-7 c = rw c.before.before.enum-told3.given.1 (c.fitted2.ensures ∙ ap (checked none) c.before.is-security.ensures)
 
-returns-8 : tie.Need-returns-8
-returns-8 c = rw c.before.before.form5.given.1 c.check-digits.ensures
-
 pub check-value-spec : {M : Type 1} → statement M
 check-value-spec =
     tie.close
@@ -56,13 +53,10 @@ check-value-spec =
     (λ c. search rules)
     (λ c κs. search rules)
     (λ c κs. search rules)
-    (λ c. search rules)
-    (λ c κs. search rules)
     returns
     returns-2
     returns-3
     returns-4
     returns-5
     returns-6
-    returns-7
-    returns-8)
+    returns-7)

@@ -1,19 +1,12 @@
 -- `table::walk::is_in_range` meets its contract, by the tests of each arm.
 use borrow.Author.Rules.{rules}
-use mathlib.Core.Path.{◌≡◌, sym, ap, ◌∙◌}
-use Prim.Native.Nat.{ℕ, ◌%◌}
-use native.Mathlib.Omega.{arith}
-use Rattle.octet.specs.Bytes.{between}
+use mathlib.Core.Path.{sym}
 use borrow.Author.Tests.{eq-eqb, ne_eqb, le-leb}
 use Rattle.octet.proofs.Lists.{is_below}
 use Rattle.table.specs.Steps.{in_range}
 use Rattle.table.proofs.Values.{below_next}
 use Rattle.table.proofs.walk.is_in_range.Statement.{statement}
 use Rattle.table.proofs.walk.is_in_range.Tie as tie
-
--- the last two digits of the last two
-mod-mod : (n : ℕ) → n % 100 % 100 ≡ n % 100
-mod-mod n = omega arith
 
 returns : tie.Need-returns
 unfolding in_range
@@ -43,14 +36,6 @@ returns-7 : tie.Need-returns-7
 unfolding in_range
 returns-7 c = rw c.enum-told2.given.1
 
-returns-8 : tie.Need-returns-8
-unfolding in_range
-returns-8 c = rw c.before.enum-told3.given.1 (c.is-month.ensures ∙ ap (between 1 12) (mod-mod c.before.before.before.before.args.n))
-
-returns-9 : tie.Need-returns-9
-unfolding in_range
-returns-9 c = rw c.before.before.range3.given.1 c.is-day-by.ensures
-
 pub is-in-range-spec : {M : Type 1} → statement M
 is-in-range-spec =
     tie.close
@@ -67,14 +52,7 @@ is-in-range-spec =
     (λ c κs. search rules)
     (λ c. search rules)
     (λ c. search rules)
-    (λ c. search rules)
-    (λ c. search rules)
-    (λ c κs. search rules)
-    (λ c. search rules)
-    (λ c κs. search rules)
     returns-4
     returns-5
     returns-6
-    returns-7
-    returns-8
-    returns-9)
+    returns-7)
