@@ -8,23 +8,23 @@ use Rattle.answer.specs.contracts.Refusal.number as refusal-number
 use Rattle.answer.specs.contracts.Setup.ours as ours
 use Rattle.answer.specs.contracts.Setup.theirs as theirs
 
-pub fault-one : Once of.ended (λ M 𝓤. of.clauses 𝓤) (λ κs r e. r)
+pub fault-one : Once of.ended (λ M 𝓤. of.clauses) (λ κs r e. r)
 fault-one M 𝓤 𝓛 mem run κs a g = (_, λ r e. alone 𝓤)
 
-pub count-on-one : Once count-on.ended (λ M 𝓤. count-on.clauses 𝓤) (λ κs r e. r)
+pub count-on-one : Once count-on.ended (λ M 𝓤. count-on.clauses) (λ κs r e. r)
 count-on-one M 𝓤 𝓛 mem run κs a g = (_, λ r e. alone 𝓤)
 
-pub phase-number-one : Once phase-number.ended (λ M 𝓤. phase-number.clauses 𝓤) (λ κs r e. r)
+pub phase-number-one : Once phase-number.ended (λ M 𝓤. phase-number.clauses) (λ κs r e. r)
 phase-number-one M 𝓤 𝓛 mem run κs a g = (_, λ r e. alone 𝓤)
 
-pub outcome-number-one : Once outcome-number.ended (λ M 𝓤. outcome-number.clauses 𝓤) (λ κs r e. r)
+pub outcome-number-one : Once outcome-number.ended (λ M 𝓤. outcome-number.clauses) (λ κs r e. r)
 outcome-number-one M 𝓤 𝓛 mem run κs a g = (_, λ r e. alone 𝓤)
 
-pub refusal-number-one : Once refusal-number.ended (λ M 𝓤. refusal-number.clauses 𝓤) (λ κs r e. r)
+pub refusal-number-one : Once refusal-number.ended (λ M 𝓤. refusal-number.clauses) (λ κs r e. r)
 refusal-number-one M 𝓤 𝓛 mem run κs a g = (_, λ r e. alone 𝓤)
 
-pub ours-one : Once ours.ended (λ M 𝓤. ours.clauses 𝓤) (λ κs r e. r)
+pub ours-one : Once ours.ended (λ M 𝓤. ours.clauses) (λ κs r e. r)
 ours-one M 𝓤 𝓛 mem run κs a g = (_, λ r e. alone 𝓤)
 
-pub theirs-one : Once theirs.ended (λ M 𝓤. theirs.clauses 𝓤) (λ κs r e. r)
+pub theirs-one : Once theirs.ended (λ M 𝓤. theirs.clauses) (λ κs r e. r)
 theirs-one M 𝓤 𝓛 mem run κs a g = (_, λ r e. alone 𝓤)

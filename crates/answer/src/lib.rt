@@ -1,5 +1,7 @@
 // What several crates are told or answer with: set-up, phase, type of message, fault, outcome, refusal, with the paper's number for each case; and
 // the numbers that the paper says more than once.
+#![tactic(auto)]
+
 pub mod reasons;
 pub mod tags;
 
@@ -25,14 +27,14 @@ pub const LAST_TO_SEND: u32 = NINE_DIGITS - 2;
 pub const MOST_CONTRACTS: u32 = 999_999;
 
 // An agreed ID: the first len of bytes.
-#[derive(Drop)]
+#[derive(Clone, Copy)]
 pub struct Id {
     pub bytes: [u8; 16],
     pub len: usize,
 }
 
 // What a receiver is set up with. It is asked by its methods: where an answer comes from is nothing to those who ask.
-#[derive(Drop)]
+#[derive(Clone, Copy)]
 pub struct Setup {
     pub ours: Id,
     pub theirs: Id,
@@ -52,7 +54,7 @@ impl Setup {
     }
 }
 
-#[derive(Drop)]
+#[derive(Clone, Copy)]
 pub enum Phase {
     Out,
     Sent,
@@ -77,7 +79,7 @@ impl Phase {
 }
 
 // What a type of message is: A, 0, 1, 2, 4, 5, 8, UCC; 3 and j; any other.
-#[derive(Drop)]
+#[derive(Clone, Copy)]
 pub enum Kind {
     Logon,
     Heartbeat,
@@ -92,7 +94,7 @@ pub enum Kind {
 }
 
 // A Reject's reason, the tag that it names (0: none), and, of a bad form, how much of the value was well formed.
-#[derive(Drop)]
+#[derive(Clone, Copy)]
 pub struct Fault {
     pub reason: u32,
     pub tag: u32,
@@ -116,7 +118,7 @@ pub fn count_on(n: u32, k: u32) -> u32
 }
 
 // What became of a framed message.
-#[derive(Drop)]
+#[derive(Clone, Copy)]
 pub enum Outcome {
     Ended,
     Rejected(Fault),
@@ -159,7 +161,7 @@ impl Outcome {
 }
 
 // Why a call was refused.
-#[derive(Drop)]
+#[derive(Clone, Copy)]
 pub enum Refusal {
     ShortBuffer,
     BadTime,

@@ -1,5 +1,6 @@
 // The day's slots and order rows, in memory that the caller lends whole, with their counts by value: what becomes of a fill or an
 // entry among them, and one slot more.
+#![tactic(auto)]
 mod entries; // an entry among the day's
 mod rows; // the order rows: an order found, and its sums brought up to date
 
@@ -24,7 +25,7 @@ use rows::{booked_in, find_row, more_in_row};
 pub use rows::{day_with, head_of, row_in, take_off, waits_in};
 
 // A slot among the day's: at odds with one of them, already booked, or new.
-#[derive(Drop)]
+#[derive(Clone, Copy)]
 pub enum Placed {
     Clash(Fault),
     Already,
@@ -32,7 +33,7 @@ pub enum Placed {
 }
 
 // How many fills there are, of how many orders, and how many entries.
-#[derive(Drop)]
+#[derive(Clone, Copy)]
 pub struct Load {
     pub fills: u32,
     pub orders: u32,
@@ -47,7 +48,7 @@ pub const NO_LOAD: Load = Load {
 };
 
 // What a booking changes and answers: the load then, the place of the order's row, and whether a fill is in step.
-#[derive(Drop)]
+#[derive(Clone, Copy)]
 pub struct Booking {
     pub load: Load,
     pub row: usize,
@@ -56,7 +57,7 @@ pub struct Booking {
 
 // What becomes of a slot among the day's: at odds with one of them, already booked, no room, or new, with what its booking
 // changes and answers.
-#[derive(Drop)]
+#[derive(Clone, Copy)]
 pub enum Admitted {
     Clash(Fault),
     Already,
@@ -66,14 +67,14 @@ pub enum Admitted {
 
 // What the slots say of a fill: the place of the one with its ExecID, SLOTS where there is none; and, where there is none, whether its order has a
 // fill among them.
-#[derive(Drop)]
+#[derive(Clone, Copy)]
 struct Seen {
     exec: usize,
     known: bool,
 }
 
 // The eight bytes by which an ID is told from others at a glance.
-#[derive(Drop)]
+#[derive(Clone, Copy)]
 struct Glance {
     at: usize,
     word: u64,

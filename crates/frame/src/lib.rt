@@ -1,12 +1,13 @@
 // Finding a message at the front of the bytes that have come: an opening, `9=`, 1 to 4 digits, `|`, a body of that many bytes, `10=`,
 // three digits, `|`. One function for each layer of the definition, its tests in the paper's order.
+#![tactic(auto)]
 ghost use Rattle.std.specs.Prelude.{◌≡◌, ◌≤◌, length};
 ghost use Rattle.frame.specs.Finding.{skip_of, trailer_of, body_ok, judge_whole, judge_length, judge_digits, judge_opening, found_by, found_in, body_by, body_in};
 
 use answer::BAR;
 
 // What stands at the front: nothing yet, since bytes are missing; no message, with the bytes to skip; a message, with its length.
-#[derive(Drop)]
+#[derive(Clone, Copy)]
 pub enum Found {
     More,
     Garbled(usize),
@@ -14,7 +15,7 @@ pub enum Found {
 }
 
 // What the judging of the bytes comes to, before the skip is looked for.
-#[derive(Drop)]
+#[derive(Clone, Copy)]
 pub enum Standing {
     Short,
     Failed,

@@ -1,5 +1,6 @@
 // Runs framing on the lines of standard input, each a label, `~`, and bytes as the paper writes them (`|` is byte 1), and writes for each line
 // its label and what stands at the front of the bytes. The expected output is by hand, from the paper's "Finding a message" and its worked cases.
+#![tactic(auto)]
 fn barred(b: u8) -> u8 {
     if b == b'|' { 1 } else { b }
 }

@@ -1,4 +1,5 @@
 // The list program and the totals program: "reads notes from standard input" and prints their listing, or their totals, or says on standard error why it cannot.
+#![tactic(auto)]
 ghost use Rattle.std.specs.Prelude.{◌≤◌, ◌<◌};
 
 use book::BOOK;

@@ -1,5 +1,7 @@
 // Bytes in lent memory: compared, measured, cut into parts and copied; and in them numbers, high byte first,
 // and texts with a length byte and zero padding.
+#![tactic(auto)]
+
 ghost use Rattle.std.specs.Prelude.{◌≡◌, ◌+◌, ◌-◌, ◌*◌, ◌^◌, ◌≤◌, ◌<◌, min, length, get_or, drop, replicate, leb};
 ghost use Rattle.octet.specs.Bytes.{same, agree, part, until_byte, run_in, all_in};
 ghost use Rattle.octet.specs.Places.{LowFirst, number_in, word_at, high, big_endian};

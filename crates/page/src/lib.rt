@@ -1,5 +1,6 @@
 // The totals page: the contracts waiting, one row an order, in a slice of rows that the caller lends. They are kept in the book's order
 // rows and in the marks: the page reads them, and adds nothing up.
+#![tactic(auto)]
 ghost use Rattle.std.specs.Prelude.{◌≡◌, ◌≤◌};
 ghost use Rattle.book.specs.Place.{most_orders};
 ghost use Rattle.page.specs.Page.{row_of, shown_of, told_of, due_of, Pages};
@@ -10,14 +11,14 @@ use queue::Marks;
 
 // The OrderID, "a length byte and zero padding", and the contracts of the order that wait.
 #[repr(C)]
-#[derive(Drop)]
+#[derive(Clone, Copy)]
 pub struct OrderRow {
     pub id: [u8; 31],
     pub waiting: u32,
 }
 
 // How many orders there are, and the day's sum; or a refusal.
-#[derive(Drop)]
+#[derive(Clone, Copy)]
 pub enum Paged {
     Refused(Refusal),
     Shown(u32, u32),

@@ -2,5 +2,5 @@
 use Rattle.octet.proofs.Once.{Once, paired, ◌&◌}
 use Rattle.parts.specs.contracts.relay as relay
 
-pub relay-one : Once relay.ended (λ M 𝓤. relay.clauses 𝓤) (λ κs r e. r & e.0.now)
+pub relay-one : Once relay.ended (λ M 𝓤. relay.clauses) (λ κs r e. r & e.0.now)
 relay-one M 𝓤 𝓛 mem run κs a g = (_, λ r e. paired 𝓤)

@@ -1,5 +1,6 @@
 // The replay program: reads a script of calls on standard input, runs it against one receiver, and writes the transcript, a line for each line; or
 // says on standard error why it cannot. docs/REPLAY.md has the language.
+#![tactic(auto)]
 mod code; // bytes, decoded and encoded
 mod script; // a line of the script, read
 mod transcript; // what is written of a call

@@ -1,5 +1,6 @@
 // The queue to the ledger host: offer, begin-again, acknowledge, new day. Marks by value, the fills, entries and order rows in the lent book,
 // under the numbers of one queue.
+#![tactic(auto)]
 ghost use Rattle.std.specs.Prelude.{◌≡◌};
 ghost use Rattle.book.specs.Memory.{TakesOff};
 ghost use Rattle.queue.specs.Queue.{no_marks, marks_again, one_more, offered_up_to, acked_up_to, Offers, begun_again, Acknowledges, new_day};
@@ -9,7 +10,7 @@ use book::{BOOK, Load, NO_LOAD};
 
 // The last number given, as many slots the day has; how many fills, orders and entries these are; the marks: the last number
 // acknowledged, and the last offered; and the contracts waiting for the day.
-#[derive(Drop)]
+#[derive(Clone, Copy)]
 pub struct Marks {
     pub last: u32,
     pub load: Load,
@@ -19,21 +20,21 @@ pub struct Marks {
 }
 
 // What an offer answers: the marks after it and how long the line is; that there is no such slot; or a refusal.
-#[derive(Drop)]
+#[derive(Clone, Copy)]
 pub enum Offer {
     Given(Marks, usize),
     Nothing,
     Refused(Refusal),
 }
 
-#[derive(Drop)]
+#[derive(Clone, Copy)]
 pub enum Acknowledged {
     Taken(Marks),
     Already,
     Refused(Refusal),
 }
 
-#[derive(Drop)]
+#[derive(Clone, Copy)]
 pub enum Day {
     Fresh(Marks),
     Refused(Refusal),

@@ -1,4 +1,5 @@
 // An execution report that passed the table: its values, the four rules, and the slot of its fill; and the slot of the entry that a Trade Cancel/Correct tells of.
+#![tactic(auto)]
 ghost use Rattle.std.specs.Prelude.{◌≡◌, ◌%◌};
 ghost use Rattle.std.proofs.Math.Option.{some};
 ghost use Rattle.value.specs.Value.{price_in};
@@ -26,7 +27,7 @@ use fill::SLOT;
 use table::{Judgement, number_at};
 
 // What a report says: it breaks a rule, it is set aside, or it tells of a fill.
-#[derive(Drop)]
+#[derive(Clone, Copy)]
 pub enum Reported {
     Faulty(Fault),
     Aside,
@@ -34,7 +35,7 @@ pub enum Reported {
 }
 
 // OrderQty, LastShares, CumQty and LeavesQty.
-#[derive(Drop)]
+#[derive(Clone, Copy)]
 struct Sums {
     quantity: u32,
     shares: u32,

@@ -1,5 +1,6 @@
 // A restart: from the notes to what they keep, or to the place of the first unlawful one. "A restart reads whole notes, drops a
 // part at the end, and says how many bytes are whole."
+#![tactic(auto)]
 ghost use Rattle.std.specs.Prelude.{◌≡◌, ◌+◌, ◌≤◌, length};
 ghost use Rattle.book.specs.Memory.{book_width};
 ghost use Rattle.note.specs.Notes.{Raises, Books, Acks, Clears, read_note, told as said};
@@ -13,7 +14,7 @@ use note::Read;
 
 // What the notes keep but for the slots and the order rows, which are in the lent book: last is the last number given, as many slots there
 // are, and day the contracts waiting. The load is here as three numbers: a struct in a struct would be copied with every note.
-#[derive(Drop)]
+#[derive(Clone, Copy)]
 pub struct Counts {
     pub e: u32,
     pub o: u32,
@@ -26,14 +27,14 @@ pub struct Counts {
 }
 
 // What is kept and how many bytes of the notes are whole; or the place of the first byte of an unlawful note.
-#[derive(Drop)]
+#[derive(Clone, Copy)]
 pub enum Restarted {
     Again(Counts, usize),
     Unlawful(usize),
 }
 
 // What one note does: the restart goes on with these counts, ends before a part, or refuses.
-#[derive(Drop)]
+#[derive(Clone, Copy)]
 pub enum Step {
     On(Counts),
     End,

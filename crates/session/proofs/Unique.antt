@@ -57,50 +57,50 @@ known_facts r = λ i. record {
   to = r.to;
 }
 
-pub says-once : Once says.ended (λ M 𝓤. says.clauses 𝓤) (λ κs r e. r)
+pub says-once : Once says.ended (λ M 𝓤. says.clauses) (λ κs r e. r)
 says-once M 𝓤 𝓛 mem run κs a g = (_, λ r e. alone 𝓤)
 
-pub fresh-once : Once fresh.ended (λ M 𝓤. fresh.clauses 𝓤) (λ κs r e. r)
+pub fresh-once : Once fresh.ended (λ M 𝓤. fresh.clauses) (λ κs r e. r)
 fresh-once M 𝓤 𝓛 mem run κs a g = (_, λ r e. alone 𝓤)
 
-pub is-off-once : Once is-off.ended (λ M 𝓤. is-off.clauses 𝓤) (λ κs r e. r)
+pub is-off-once : Once is-off.ended (λ M 𝓤. is-off.clauses) (λ κs r e. r)
 is-off-once M 𝓤 𝓛 mem run κs a g = (_, λ r e. alone 𝓤)
 
-pub is-on-once : Once is-on.ended (λ M 𝓤. is-on.clauses 𝓤) (λ κs r e. r)
+pub is-on-once : Once is-on.ended (λ M 𝓤. is-on.clauses) (λ κs r e. r)
 is-on-once M 𝓤 𝓛 mem run κs a g = (_, λ r e. alone 𝓤)
 
-pub may-call-once : Once may-call.ended (λ M 𝓤. may-call.clauses 𝓤) (λ κs r e. r)
+pub may-call-once : Once may-call.ended (λ M 𝓤. may-call.clauses) (λ κs r e. r)
 may-call-once M 𝓤 𝓛 mem run κs a g = (_, λ r e. alone 𝓤)
 
-pub open-once : Once opening.ended (λ M 𝓤. opening.clauses 𝓤) (λ κs r e. r)
+pub open-once : Once opening.ended (λ M 𝓤. opening.clauses) (λ κs r e. r)
 open-once M 𝓤 𝓛 mem run κs a g = (_, λ r e. alone 𝓤)
 
-pub heartbeat-once : Once heartbeat.ended (λ M 𝓤. heartbeat.clauses 𝓤) (λ κs r e. r)
+pub heartbeat-once : Once heartbeat.ended (λ M 𝓤. heartbeat.clauses) (λ κs r e. r)
 heartbeat-once M 𝓤 𝓛 mem run κs a g = (_, λ r e. alone 𝓤)
 
-pub test-request-once : Once test-request.ended (λ M 𝓤. test-request.clauses 𝓤) (λ κs r e. r)
+pub test-request-once : Once test-request.ended (λ M 𝓤. test-request.clauses) (λ κs r e. r)
 test-request-once M 𝓤 𝓛 mem run κs a g = (_, λ r e. alone 𝓤)
 
-pub close-once : Once close.ended (λ M 𝓤. close.clauses 𝓤) (λ κs r e. r)
+pub close-once : Once close.ended (λ M 𝓤. close.clauses) (λ κs r e. r)
 close-once M 𝓤 𝓛 mem run κs a g = (_, λ r e. alone 𝓤)
 
-pub own-once : Once own.ended (λ M 𝓤. own.clauses 𝓤) (λ κs r e. r)
+pub own-once : Once own.ended (λ M 𝓤. own.clauses) (λ κs r e. r)
 own-once M 𝓤 𝓛 mem run κs a g = (_, λ r e. alone 𝓤)
 
-pub line-lost-once : Once line-lost.ended (λ M 𝓤. line-lost.clauses 𝓤) (λ κs r e. r)
+pub line-lost-once : Once line-lost.ended (λ M 𝓤. line-lost.clauses) (λ κs r e. r)
 line-lost-once M 𝓤 𝓛 mem run κs a g = (_, λ r e. alone 𝓤)
 
-pub rejected-once : Once rejected.ended (λ M 𝓤. rejected.clauses 𝓤) (λ κs r e. r)
+pub rejected-once : Once rejected.ended (λ M 𝓤. rejected.clauses) (λ κs r e. r)
 rejected-once M 𝓤 𝓛 mem run κs a g = (_, λ r e. alone 𝓤)
 
-pub passed-once : Once passed.ended (λ M 𝓤. passed.clauses 𝓤) (λ κs r e. r)
+pub passed-once : Once passed.ended (λ M 𝓤. passed.clauses) (λ κs r e. r)
 passed-once M 𝓤 𝓛 mem run κs a g = (_, λ r e. alone 𝓤)
 
-pub findings-of-once : Once findings-of.ended (λ M 𝓤. findings-of.clauses 𝓤) (λ κs r e. r)
+pub findings-of-once : Once findings-of.ended (λ M 𝓤. findings-of.clauses) (λ κs r e. r)
 findings-of-once M 𝓤 𝓛 mem run κs a g = (_, λ r e. by 𝓤 (λ p. sym (known_facts r) ∙ ap known p))
 
-pub judge-once : Once judge.ended (λ M 𝓤. judge.clauses 𝓤) (λ κs r e. r)
+pub judge-once : Once judge.ended (λ M 𝓤. judge.clauses) (λ κs r e. r)
 judge-once M 𝓤 𝓛 mem run κs a g = (_, λ r e. alone 𝓤)
 
-pub word-tag-once : Once word-tag.ended (λ M 𝓤. word-tag.clauses 𝓤) (λ κs r e. r)
+pub word-tag-once : Once word-tag.ended (λ M 𝓤. word-tag.clauses) (λ κs r e. r)
 word-tag-once M 𝓤 𝓛 mem run κs a g = (_, λ r e. alone 𝓤)

@@ -1,4 +1,5 @@
 // The session: phase, E and O by value, our own calls, and the judging of a framed message in the paper's order. It knows no book.
+#![tactic(auto)]
 mod judging;
 mod own_calls;
 mod reading;
@@ -11,7 +12,7 @@ use table::Judgement;
 use wire::Reply;
 
 // The phase, the number expected, the next to send, and the E that a Resend Request was last written for (0 for none).
-#[derive(Drop)]
+#[derive(Clone, Copy)]
 pub struct Session {
     pub phase: Phase,
     pub e: u32,
@@ -20,7 +21,7 @@ pub struct Session {
 }
 
 // Our own calls: open, heartbeat, test request, close.
-#[derive(Drop)]
+#[derive(Clone, Copy)]
 pub enum Own {
     Open,
     Beat,
@@ -29,7 +30,7 @@ pub enum Own {
 }
 
 // What a message came to, the session after it, and what is written.
-#[derive(Drop)]
+#[derive(Clone, Copy)]
 pub struct Judged {
     pub outcome: Outcome,
     pub next: Session,
@@ -37,7 +38,7 @@ pub struct Judged {
 }
 
 // What judging answers: a message that is settled; or a faultless report or correction in its turn, with its number, about which the book is to be asked.
-#[derive(Drop)]
+#[derive(Clone, Copy)]
 pub enum Verdict {
     Settled(Judged),
     Report(u32),
@@ -46,7 +47,7 @@ pub enum Verdict {
 
 // What the steps read off a message: its type, its number (0 where it has none), which ID is not the agreed one, what is wrong by steps 5 to 7,
 // `43=Y`, `123=Y`, and the numbers of 7, 16 and 36.
-#[derive(Drop)]
+#[derive(Clone, Copy)]
 pub struct Findings {
     pub kind: Kind,
     pub seq: u32,

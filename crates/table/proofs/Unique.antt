@@ -19,11 +19,11 @@ pub judged-found : (r : Judgement) → judged (found r) ≡ r
 judged-found Fine = refl
 judged-found (Faulty f) = refl
 
-pub kind-of-once : Once kind-of.ended (λ M 𝓤. kind-of.clauses 𝓤) (λ κs r e. r)
+pub kind-of-once : Once kind-of.ended (λ M 𝓤. kind-of.clauses) (λ κs r e. r)
 kind-of-once M 𝓤 𝓛 mem run κs a g = (_, λ r e. alone 𝓤)
 
-pub number-at-once : Once number_at.ended (λ M 𝓤. number_at.clauses 𝓤) (λ κs r e. r)
+pub number-at-once : Once number_at.ended (λ M 𝓤. number_at.clauses) (λ κs r e. r)
 number-at-once M 𝓤 𝓛 mem run κs a g = (_, λ r e. first 𝓤 _ _)
 
-pub fault-in-once : Once fault-in.ended (λ M 𝓤. fault-in.clauses 𝓤) (λ κs r e. r)
+pub fault-in-once : Once fault-in.ended (λ M 𝓤. fault-in.clauses) (λ κs r e. r)
 fault-in-once M 𝓤 𝓛 mem run κs a g = (_, λ r e. by 𝓤 (λ p. sym (judged-found r) ∙ ap judged p))

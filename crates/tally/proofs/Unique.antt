@@ -12,35 +12,35 @@ use Rattle.tally.specs.contracts.count_rejected as count-rejected
 use Rattle.tally.specs.contracts.count_garbled as count-garbled
 use Rattle.tally.specs.contracts.count as count
 
-pub new-once : Once new.ended (λ M 𝓤. new.clauses 𝓤) (λ κs r e. r)
+pub new-once : Once new.ended (λ M 𝓤. new.clauses) (λ κs r e. r)
 new-once M 𝓤 𝓛 mem run κs a g = (_, λ r e. alone 𝓤)
 
-pub one-booked-once : Once one-booked.ended (λ M 𝓤. one-booked.clauses 𝓤) (λ κs r e. r)
+pub one-booked-once : Once one-booked.ended (λ M 𝓤. one-booked.clauses) (λ κs r e. r)
 one-booked-once M 𝓤 𝓛 mem run κs a g = (_, λ r e. alone 𝓤)
 
-pub one-already-once : Once one-already.ended (λ M 𝓤. one-already.clauses 𝓤) (λ κs r e. r)
+pub one-already-once : Once one-already.ended (λ M 𝓤. one-already.clauses) (λ κs r e. r)
 one-already-once M 𝓤 𝓛 mem run κs a g = (_, λ r e. alone 𝓤)
 
-pub one-rejected-once : Once one-rejected.ended (λ M 𝓤. one-rejected.clauses 𝓤) (λ κs r e. r)
+pub one-rejected-once : Once one-rejected.ended (λ M 𝓤. one-rejected.clauses) (λ κs r e. r)
 one-rejected-once M 𝓤 𝓛 mem run κs a g = (_, λ r e. alone 𝓤)
 
-pub one-garbled-once : Once one-garbled.ended (λ M 𝓤. one-garbled.clauses 𝓤) (λ κs r e. r)
+pub one-garbled-once : Once one-garbled.ended (λ M 𝓤. one-garbled.clauses) (λ κs r e. r)
 one-garbled-once M 𝓤 𝓛 mem run κs a g = (_, λ r e. alone 𝓤)
 
-pub count-of-once : Once count_of.ended (λ M 𝓤. count_of.clauses 𝓤) (λ κs r e. r)
+pub count-of-once : Once count_of.ended (λ M 𝓤. count_of.clauses) (λ κs r e. r)
 count-of-once M 𝓤 𝓛 mem run κs a g = (_, λ r e. alone 𝓤)
 
-pub count-booked-once : Once count-booked.ended (λ M 𝓤. count-booked.clauses 𝓤) (λ κs r e. e.0.now)
+pub count-booked-once : Once count-booked.ended (λ M 𝓤. count-booked.clauses) (λ κs r e. e.0.now)
 count-booked-once M 𝓤 𝓛 mem run κs a g = (_, λ r e. alone 𝓤)
 
-pub count-already-once : Once count-already.ended (λ M 𝓤. count-already.clauses 𝓤) (λ κs r e. e.0.now)
+pub count-already-once : Once count-already.ended (λ M 𝓤. count-already.clauses) (λ κs r e. e.0.now)
 count-already-once M 𝓤 𝓛 mem run κs a g = (_, λ r e. alone 𝓤)
 
-pub count-rejected-once : Once count-rejected.ended (λ M 𝓤. count-rejected.clauses 𝓤) (λ κs r e. e.0.now)
+pub count-rejected-once : Once count-rejected.ended (λ M 𝓤. count-rejected.clauses) (λ κs r e. e.0.now)
 count-rejected-once M 𝓤 𝓛 mem run κs a g = (_, λ r e. alone 𝓤)
 
-pub count-garbled-once : Once count-garbled.ended (λ M 𝓤. count-garbled.clauses 𝓤) (λ κs r e. e.0.now)
+pub count-garbled-once : Once count-garbled.ended (λ M 𝓤. count-garbled.clauses) (λ κs r e. e.0.now)
 count-garbled-once M 𝓤 𝓛 mem run κs a g = (_, λ r e. alone 𝓤)
 
-pub count-once : Once count.ended (λ M 𝓤. count.clauses 𝓤) (λ κs r e. e.0.now)
+pub count-once : Once count.ended (λ M 𝓤. count.clauses) (λ κs r e. e.0.now)
 count-once M 𝓤 𝓛 mem run κs a g = (_, λ r e. alone 𝓤)

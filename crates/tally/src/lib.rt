@@ -1,10 +1,12 @@
 // The tally: what the messages of a line came to, in four counts.
+#![tactic(auto)]
+
 ghost use Rattle.std.specs.Prelude.{◌≡◌};
 ghost use Rattle.tally.specs.Tally.{up, none_yet, one_booked, one_already, one_rejected, one_garbled, count_of, tallied};
 
 use answer::{Outcome, count_on};
 
-#[derive(Drop)]
+#[derive(Clone, Copy)]
 pub struct Tally {
     pub booked: u32,
     pub already: u32,
@@ -13,7 +15,7 @@ pub struct Tally {
 }
 
 // "booked, already booked, rejected (a Reject written) and garbled": the count that an answer raises, where it raises one.
-#[derive(Drop)]
+#[derive(Clone, Copy)]
 pub enum Which {
     Booked,
     Already,

@@ -23,47 +23,47 @@ use Rattle.text.specs.contracts.byte_sum as byte-sum
 apart : {b : List ℕ} {n : ℕ} {t : Text} → text_with b n ≡ t → n & b ≡ t.len & t.bytes
 apart p = both (ap (λ (u : Text). u.len) p) (ap (λ (u : Text). u.bytes) p)
 
-pub new-once : Once new.ended (λ M 𝓤. new.clauses 𝓤) (λ κs r e. r)
+pub new-once : Once new.ended (λ M 𝓤. new.clauses) (λ κs r e. r)
 new-once M 𝓤 𝓛 mem run κs a g = (_, λ r e. alone 𝓤)
 
-pub put-once : Once put.ended (λ M 𝓤. put.clauses 𝓤) (λ κs r e. r)
+pub put-once : Once put.ended (λ M 𝓤. put.clauses) (λ κs r e. r)
 put-once M 𝓤 𝓛 mem run κs a g = (_, λ r e. alone 𝓤)
 
-pub part-once : Once part.ended (λ M 𝓤. part.clauses 𝓤) (λ κs r e. r)
+pub part-once : Once part.ended (λ M 𝓤. part.clauses) (λ κs r e. r)
 part-once M 𝓤 𝓛 mem run κs a g = (_, λ r e. alone 𝓤)
 
-pub decimal-once : Once decimal.ended (λ M 𝓤. decimal.clauses 𝓤) (λ κs r e. r)
+pub decimal-once : Once decimal.ended (λ M 𝓤. decimal.clauses) (λ κs r e. r)
 decimal-once M 𝓤 𝓛 mem run κs a g = (_, λ r e. alone 𝓤)
 
-pub price-once : Once price.ended (λ M 𝓤. price.clauses 𝓤) (λ κs r e. r)
+pub price-once : Once price.ended (λ M 𝓤. price.clauses) (λ κs r e. r)
 price-once M 𝓤 𝓛 mem run κs a g = (_, λ r e. alone 𝓤)
 
-pub place-once : Once place.ended (λ M 𝓤. place.clauses 𝓤) (λ κs r e. r & e.1.0.now)
+pub place-once : Once place.ended (λ M 𝓤. place.clauses) (λ κs r e. r & e.1.0.now)
 place-once M 𝓤 𝓛 mem run κs a g = (_, λ r e. joined 𝓤 _ _ (alone 𝓤) (alone 𝓤))
 
-pub put-at-once : Once put-at.ended (λ M 𝓤. put-at.clauses 𝓤) (λ κs r e. r & e.0.now)
+pub put-at-once : Once put-at.ended (λ M 𝓤. put-at.clauses) (λ κs r e. r & e.0.now)
 put-at-once M 𝓤 𝓛 mem run κs a g = (_, λ r e. by 𝓤 apart)
 
-pub part-at-once : Once part_at.ended (λ M 𝓤. part_at.clauses 𝓤) (λ κs r e. r & e.0.now)
+pub part-at-once : Once part_at.ended (λ M 𝓤. part_at.clauses) (λ κs r e. r & e.0.now)
 part-at-once M 𝓤 𝓛 mem run κs a g = (_, λ r e. by 𝓤 apart)
 
-pub decimal-at-once : Once decimal-at.ended (λ M 𝓤. decimal-at.clauses 𝓤) (λ κs r e. r & e.0.now)
+pub decimal-at-once : Once decimal-at.ended (λ M 𝓤. decimal-at.clauses) (λ κs r e. r & e.0.now)
 decimal-at-once M 𝓤 𝓛 mem run κs a g = (_, λ r e. by 𝓤 apart)
 
-pub fixed-at-once : Once fixed-at.ended (λ M 𝓤. fixed-at.clauses 𝓤) (λ κs r e. r & e.0.now)
+pub fixed-at-once : Once fixed-at.ended (λ M 𝓤. fixed-at.clauses) (λ κs r e. r & e.0.now)
 fixed-at-once M 𝓤 𝓛 mem run κs a g = (_, λ r e. by 𝓤 apart)
 
-pub field-at-once : Once field_at.ended (λ M 𝓤. field_at.clauses 𝓤) (λ κs r e. r & e.0.now)
+pub field-at-once : Once field_at.ended (λ M 𝓤. field_at.clauses) (λ κs r e. r & e.0.now)
 field-at-once M 𝓤 𝓛 mem run κs a g = (_, λ r e. by 𝓤 apart)
 
-pub number-at-once : Once number_at.ended (λ M 𝓤. number_at.clauses 𝓤) (λ κs r e. r & e.0.now)
+pub number-at-once : Once number_at.ended (λ M 𝓤. number_at.clauses) (λ κs r e. r & e.0.now)
 number-at-once M 𝓤 𝓛 mem run κs a g = (_, λ r e. by 𝓤 apart)
 
-pub letter-at-once : Once letter_at.ended (λ M 𝓤. letter_at.clauses 𝓤) (λ κs r e. r & e.0.now)
+pub letter-at-once : Once letter_at.ended (λ M 𝓤. letter_at.clauses) (λ κs r e. r & e.0.now)
 letter-at-once M 𝓤 𝓛 mem run κs a g = (_, λ r e. by 𝓤 apart)
 
-pub read-digits-once : Once read-digits.ended (λ M 𝓤. read-digits.clauses 𝓤) (λ κs r e. r)
+pub read-digits-once : Once read-digits.ended (λ M 𝓤. read-digits.clauses) (λ κs r e. r)
 read-digits-once M 𝓤 𝓛 mem run κs a g = (_, λ r e. first 𝓤 _ _)
 
-pub byte-sum-once : Once byte-sum.ended (λ M 𝓤. byte-sum.clauses 𝓤) (λ κs r e. r)
+pub byte-sum-once : Once byte-sum.ended (λ M 𝓤. byte-sum.clauses) (λ κs r e. r)
 byte-sum-once M 𝓤 𝓛 mem run κs a g = (_, λ r e. alone 𝓤)

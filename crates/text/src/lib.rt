@@ -1,4 +1,6 @@
 // Texts: decimal numbers read and written, a text that is being written, fields, and the byte sum.
+#![tactic(auto)]
+
 ghost use Rattle.std.specs.Prelude.{◌≡◌, ◌+◌, ◌/◌, ◌%◌, ◌^◌, ◌≤◌, min, [], ◌∷◌, length, take, if◌then◌else◌};
 ghost use Rattle.octet.specs.Splice.{splice, fits_at};
 ghost use Rattle.text.specs.Decimal.{digits_at_front, Fits, decimal, fixed, price_text, check_sum};
@@ -9,7 +11,7 @@ use answer::BAR;
 use octet::copy_into;
 
 // How many digits there are at the front, and the number that they write.
-#[derive(Drop)]
+#[derive(Clone, Copy)]
 pub struct Digits {
     pub len: usize,
     pub value: u32,
@@ -19,7 +21,7 @@ pub struct Digits {
 pub const ROOM: usize = 512;
 
 // A text that is being written: the first len of bytes. What does not fit is left out.
-#[derive(Drop)]
+#[derive(Clone, Copy)]
 pub struct Text {
     pub bytes: [u8; ROOM],
     pub len: usize,

@@ -4,11 +4,11 @@ use Rattle.wire.specs.contracts.write as write
 use Rattle.wire.specs.contracts.write_reply as write-reply
 use Rattle.wire.specs.contracts.used_by as used-by
 
-pub write-one : Once write.ended (λ M 𝓤. write.clauses 𝓤) (λ κs r e. r & e.1.1.1.1.1.0.now)
+pub write-one : Once write.ended (λ M 𝓤. write.clauses) (λ κs r e. r & e.1.1.1.1.1.0.now)
 write-one M 𝓤 𝓛 mem run κs a g = (_, λ r e. by 𝓤 (λ p. both p.end p.bytes))
 
-pub write-reply-one : Once write-reply.ended (λ M 𝓤. write-reply.clauses 𝓤) (λ κs r e. r & e.1.1.1.1.1.0.now)
+pub write-reply-one : Once write-reply.ended (λ M 𝓤. write-reply.clauses) (λ κs r e. r & e.1.1.1.1.1.0.now)
 write-reply-one M 𝓤 𝓛 mem run κs a g = (_, λ r e. by 𝓤 (λ p. both p.end p.bytes))
 
-pub used-by-one : Once used-by.ended (λ M 𝓤. used-by.clauses 𝓤) (λ κs r e. r)
+pub used-by-one : Once used-by.ended (λ M 𝓤. used-by.clauses) (λ κs r e. r)
 used-by-one M 𝓤 𝓛 mem run κs a g = (_, λ r e. alone 𝓤)

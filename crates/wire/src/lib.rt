@@ -1,4 +1,5 @@
 // The messages that we write: what to say is an enum, and one function lays its fields out, whatever the opening.
+#![tactic(auto)]
 ghost use Rattle.std.specs.Prelude.{◌≡◌, [], ◌∷◌, ◌+◌, ◌≤◌, length};
 ghost use Rattle.answer.specs.Setup.{id_of};
 ghost use Rattle.text.specs.Fields.{◌is◌, field_bytes, layout};
@@ -13,7 +14,7 @@ use octet::copy_into;
 use text::{ROOM, byte_sum, decimal_at, field_at, fixed_at, letter_at, number_at, part_at, put_at};
 
 // What to write. Echo is the Heartbeat that answers a Test Request.
-#[derive(Drop)]
+#[derive(Clone, Copy)]
 pub enum Say {
     Logon,
     Heartbeat,
@@ -26,7 +27,7 @@ pub enum Say {
 }
 
 // What a call writes: at most two messages.
-#[derive(Drop)]
+#[derive(Clone, Copy)]
 pub enum Reply {
     Nothing,
     One(Say),

@@ -1,5 +1,6 @@
 // Writes one message of each kind, and replies of two messages, each on a line after the count of the numbers it uses; byte 1 is shown as `|`.
 // The expected bytes were laid out by hand, apart from the code, and QuickFIX reads each message as written (tests/engine/run).
+#![tactic(auto)]
 use answer::reasons::WRONG_FORM;
 use answer::{BAR, Fault, Id, LARGEST, LAST_SEQUENCE, LAST_TO_SEND, Setup};
 use wire::{Reply, Say};

@@ -9,85 +9,85 @@ use Rattle.octet.proofs.Places.{more-fits, below-pow}
 use Rattle.text.proofs.read_digits.Statement.{statement}
 use Rattle.text.proofs.read_digits.Tie as tie
 
-abbrev invariant-loop : tie.invariant-loop
-invariant-loop s most end len₀ value₀ len value =
+abbrev invariant-loop-len : tie.invariant-loop-len
+invariant-loop-len s most end len₀ value₀ len value =
     (len ≤ end) × (value < 10 ^ len) × (digits_at_front most s ≡ so_far len value (end - len) (drop len s))
 
-abbrev decreases-loop : tie.decreases-loop
-decreases-loop s most end len₀ value₀ len value = end - len
+abbrev decreases-loop-len : tie.decreases-loop-len
+decreases-loop-len s most end len₀ value₀ len value = end - len
 
-abbrev given : tie.At-loop invariant-loop decreases-loop → List ℕ
-given p = p.before.before.before.args.s.now
+abbrev given : tie.At-loop-len invariant-loop-len decreases-loop-len → List ℕ
+given p = p.args.s.now
 
 -- what is read so far is the answer where nothing more is read
-abbrev read : tie.At-loop invariant-loop decreases-loop → Digits
-read p = record { len = p.loop.len; value = p.loop.value }
+abbrev read : tie.At-loop-len invariant-loop-len decreases-loop-len → Digits
+read p = record { len = p.loop-len.len; value = p.loop-len.value }
 
-answer : (p : tie.At-loop invariant-loop decreases-loop)
-    → so_far p.loop.len p.loop.value (p.before.fewer.result - p.loop.len) (drop p.loop.len (given p)) ≡ read p
-    → (read p ≡ digits_at_front p.before.before.before.args.most (given p))
-    × Fits p.before.before.before.args.most (given p) (read p)
+answer : (p : tie.At-loop-len invariant-loop-len decreases-loop-len)
+    → so_far p.loop-len.len p.loop-len.value (p.fewer-end.result - p.loop-len.len) (drop p.loop-len.len (given p)) ≡ read p
+    → (read p ≡ digits_at_front p.args.most (given p))
+    × Fits p.args.most (given p) (read p)
 answer p h =
-    let e : read p ≡ digits_at_front p.before.before.before.args.most (given p) = sym (p.loop.invariant.2 ∙ h) in
+    let e : read p ≡ digits_at_front p.args.most (given p) = sym (p.loop-len.invariant.2 ∙ h) in
     (e, rw e (front_fits _ _))
 
-loop-holds : tie.Need-loop-init invariant-loop decreases-loop
-loop-holds c = (search rules, lit< tt, start _ _ ∙ ap (λ (e : ℕ). so_far 0 0 (e - 0) c.before.before.args.s.now) (sym c.fewer.ensures))
+loop-len-init : tie.Need-loop-len-init invariant-loop-len decreases-loop-len
+loop-len-init c = (search rules, lit< tt, start _ _ ∙ ap (λ (e : ℕ). so_far 0 0 (e - 0) c.args.s.now) (sym c.fewer-end.ensures))
 
-returns : tie.Need-returns invariant-loop decreases-loop
-returns c = answer c.before.before (past _ _ _ _ _ c.if1.true)
+returns-then-s-len : tie.Need-returns-then-s-len invariant-loop-len decreases-loop-len
+returns-then-s-len c = answer c.before.before (past _ _ _ _ _ c.if-s-len.true)
 
-returns-2 : tie.Need-returns-2 invariant-loop decreases-loop
-returns-2 c =
+returns-then-b-lt48 : tie.Need-returns-then-b-lt48 invariant-loop-len decreases-loop-len
+returns-then-b-lt48 c =
     let p = c.before.before.before.before in
-    answer p (stop _ _ _ p.loop.len (given p) (search rules) (is_below 48 57 _ c.if2.true))
+    answer p (stop _ _ _ p.loop-len.len (given p) (search rules) (is_below 48 57 _ c.if-b-lt48.true))
 
-returns-3 : tie.Need-returns-3 invariant-loop decreases-loop
-returns-3 c =
+returns-then-b-gt57 : tie.Need-returns-then-b-gt57 invariant-loop-len decreases-loop-len
+returns-then-b-gt57 c =
     let p = c.before.before.before.before.before in
-    answer p (stop _ _ _ p.loop.len (given p) (search rules) (is-above 48 57 _ c.if3.true))
+    answer p (stop _ _ _ p.loop-len.len (given p) (search rules) (is-above 48 57 _ c.if-b-gt57.true))
 
-small : (p : tie.At-loop invariant-loop decreases-loop) → p.loop.len < p.before.fewer.result → p.loop.value < 10 ^ 8
-small p h = below-pow 10 8 (lit< tt) p.loop.invariant.1 (omega (arith, p.before.fewer.ensures))
+small : (p : tie.At-loop-len invariant-loop-len decreases-loop-len) → p.loop-len.len < p.fewer-end.result → p.loop-len.value < 10 ^ 8
+small p h = below-pow 10 8 (lit< tt) p.loop-len.invariant.1 (omega (arith, p.fewer-end.ensures))
 
-mul-value : tie.Need-overflow-mul-value invariant-loop decreases-loop
-mul-value c = omega (arith, small c.before.before.before.before.before (search rules))
+overflow_mul-value : tie.Need-overflow_mul-value invariant-loop-len decreases-loop-len
+overflow_mul-value c = omega (arith, small c.before.before.before.before.before (search rules))
 
-add-value : tie.Need-overflow-add-value invariant-loop decreases-loop
-add-value c = omega (arith, small c.before.before.before.before.before (search rules))
+overflow_add-value : tie.Need-overflow_add-value invariant-loop-len decreases-loop-len
+overflow_add-value c = omega (arith, small c.before.before.before.before.before (search rules))
 
-loop-again : tie.Need-loop-preserved invariant-loop decreases-loop
-loop-again c =
+loop-len-preserved : tie.Need-loop-len-preserved invariant-loop-len decreases-loop-len
+loop-len-preserved c =
     let p = c.before.before.before.before.before in
     let s = given p in
-    let b = get_or s p.loop.len 0 in (
+    let b = get_or s p.loop-len.len 0 in (
       omega arith,
-      more-fits 10 _ {d = b - 48} p.loop.invariant.1 (omega arith),
-      p.loop.invariant.2 ∙ more _ _ _ _ s (omega arith) (omega arith) (is-between 48 57 b c.before.if2.false c.if3.false),
+      more-fits 10 _ {d = b - 48} p.loop-len.invariant.1 (omega arith),
+      p.loop-len.invariant.2 ∙ more _ _ _ _ s (omega arith) (omega arith) (is-between 48 57 b c.if-b-lt48.false c.if-b-gt57.false),
     )
 
-returns-4 : tie.Need-returns-4 invariant-loop decreases-loop
-returns-4 c =
+returns : tie.Need-returns invariant-loop-len decreases-loop-len
+returns c =
     let p = c.before in
-    let e : p.before.fewer.result - p.loop.len ≡ 0 = omega arith in
-    answer p (rw e (full _ _ (drop p.loop.len (given p))))
+    let e : p.fewer-end.result - p.loop-len.len ≡ 0 = omega arith in
+    answer p (rw e (full _ _ (drop p.loop-len.len (given p))))
 
-pub read-digits-spec : {M : Type 1} → statement M
-read-digits-spec =
+pub read_digits_spec : {M : Type 1} → statement M
+read_digits_spec =
     tie.close
     (tie.spec
-    invariant-loop
-    decreases-loop
-    (λ c κs. search rules)
-    loop-holds
-    returns
+    invariant-loop-len
+    decreases-loop-len
     (λ c. search rules)
-    returns-2
-    returns-3
-    mul-value
+    loop-len-init
+    returns-then-s-len
     (λ c. search rules)
-    add-value
+    returns-then-b-lt48
+    returns-then-b-gt57
+    overflow_mul-value
+    (λ c. search rules)
+    overflow_add-value
     (λ c. search rules)
     (λ c. search rules)
-    loop-again
-    returns-4)
+    loop-len-preserved
+    returns)

@@ -11,52 +11,52 @@ full : (c : tie.Start) → length c.args.self.bytes ≡ room
 full c = search rules
 
 -- what is copied is what the text holds
-copied : (c : tie.After-size) → take c.size.result c.before.before.args.self.bytes ≡ held c.before.before.args.self
-copied c = held-front c.before.before.args.self _ c.size.ensures.0
+copied : (c : tie.After-size-n) → take c.size-n.result c.args.self.bytes ≡ held c.args.self
+copied c = held-front c.args.self _ c.size-n.ensures.0
 
-abbrev entry : tie.After-copy-into → tie.Start
+abbrev entry : tie.After-copy_into → tie.Start
 entry c = c.before.before.before.before.before.before
 
-fits : (c : tie.After-copy-into) → fits_at (entry c).args.dst.now (entry c).args.at (held (entry c).args.self) ≡ c.copy-into.result
-fits c = sym (c.copy-into.ensures.0 ∙ ap (fits_at (entry c).args.dst.now (entry c).args.at) (copied c.before.before.before.before))
+fits : (c : tie.After-copy_into) → fits_at (entry c).args.dst.now (entry c).args.at (held (entry c).args.self) ≡ c.copy_into.result
+fits c = sym (c.copy_into.ensures.0 ∙ ap (fits_at (entry c).args.dst.now (entry c).args.at) (copied c.before.before.before.before))
 
-written : (c : tie.After-copy-into) → c.copy-into.new.0 ≡ splice (entry c).args.dst.now (entry c).args.at (held (entry c).args.self)
-written c = c.copy-into.ensures.1 ∙ ap (splice (entry c).args.dst.now (entry c).args.at) (copied c.before.before.before.before)
+written : (c : tie.After-copy_into) → c.copy_into.new.dst ≡ splice (entry c).args.dst.now (entry c).args.at (held (entry c).args.self)
+written c = c.copy_into.ensures.1 ∙ ap (splice (entry c).args.dst.now (entry c).args.at) (copied c.before.before.before.before)
 
-array-share-prefix-b : tie.Need-array-share-prefix-b
-array-share-prefix-b c = omega (arith, full c.before.before.before.before, c.before.before.size.ensures.1)
+slice_bounds-b-end : tie.Need-slice_bounds-b-end
+slice_bounds-b-end c = omega (arith, full c.before.before.before.before, c.size-n.ensures.1)
 
-slice-aggregate-copy-into : tie.Need-slice-aggregate-copy-into
-slice-aggregate-copy-into c = simp length-take (omega (arith, full c.before.before.before.before.before, c.before.before.before.size.ensures.1))
+slice_bounds-copy_into-end : tie.Need-slice_bounds-copy_into-end
+slice_bounds-copy_into-end c = simp length-take (omega (arith, full c.before.before.before.before.before, c.size-n.ensures.1))
 
-add-result : tie.Need-overflow-add-result
-add-result c =
+overflow_add-result : tie.Need-overflow_add-result
+overflow_add-result c =
     let k = c.before.before.before in
     let s = k.before.before.before.before in
-    let h : (entry k).args.at + length (held (entry k).args.self) ≤ length (entry k).args.dst.now = leb-true _ _ (fits k ∙ c.if1.true) in
-    omega (arith, s.size.ensures.0)
+    let h : (entry k).args.at + length (held (entry k).args.self) ≤ length (entry k).args.dst.now = leb-true _ _ (fits k ∙ c.if-copy_into.true) in
+    omega (arith, s.size-n.ensures.0)
+
+returns-then-copy_into : tie.Need-returns-then-copy_into
+returns-then-copy_into c =
+    let k = c.before.before.before in
+    let s = k.before.before.before.before in
+    (written k, rw (fits k ∙ c.if-copy_into.true) (ap (λ (n : ℕ). (entry k).args.at + n) s.size-n.ensures.0))
 
 returns : tie.Need-returns
 returns c =
     let k = c.before.before.before in
-    let s = k.before.before.before.before in
-    (written k, rw (fits k ∙ c.if1.true) (ap (λ (n : ℕ). (entry k).args.at + n) s.size.ensures.0))
+    (written k, rw (fits k ∙ c.if-copy_into.false))
 
-returns-2 : tie.Need-returns-2
-returns-2 c =
-    let k = c.before.before.before in
-    (written k, rw (fits k ∙ c.if1.false))
-
-pub place-spec : {M : Type 1} → statement M
-place-spec =
+pub place_spec : {M : Type 1} → statement M
+place_spec =
     tie.close
     (tie.spec
-    (λ c κs. search rules)
-    array-share-prefix-b
-    slice-aggregate-copy-into
-    (λ c κs. search rules)
-    add-result
     (λ c. search rules)
-    returns
+    slice_bounds-b-end
+    slice_bounds-copy_into-end
     (λ c. search rules)
-    returns-2)
+    overflow_add-result
+    (λ c. search rules)
+    returns-then-copy_into
+    (λ c. search rules)
+    returns)

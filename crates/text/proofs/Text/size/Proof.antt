@@ -12,7 +12,11 @@ full c = search rules
 returns : tie.Need-returns
 returns c =
     let n = c.fewer.ensures in
-    (n ∙ sym (held-length c.before.args.self ∙ ap (min c.before.args.self.len) (full c.before)), omega arith)
+    (n ∙ sym (held-length c.args.self ∙ ap (min c.args.self.len) (full c.before)), omega arith)
 
-pub size-spec : {M : Type 1} → statement M
-size-spec = tie.close (tie.spec (λ c κs. search rules) returns)
+pub size_spec : {M : Type 1} → statement M
+size_spec =
+    tie.close
+    (tie.spec
+    (λ c. search rules)
+    returns)
