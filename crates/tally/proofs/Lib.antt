@@ -1,3 +1,1 @@
-pub mod Thin
-pub mod Counting
 pub mod Unique
