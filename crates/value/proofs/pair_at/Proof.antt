@@ -2,7 +2,7 @@
 use borrow.Author.Rules.{rules}
 use borrow.Author.Tests.{not-true, not-false}
 use mathlib.Core.Path.{◌≡◌, sym, ◌∙◌}
-use mathlib.Core.Bool.{Bool, false, not}
+use mathlib.Core.Bool.{Bool, true}
 use Prim.Native.Nat.{ℕ, ◌+◌, ◌≤◌}
 use native.Mathlib.Omega.{arith}
 use lib.ListN.{get_or}
@@ -13,27 +13,27 @@ use Rattle.value.proofs.Times.{pair-at}
 use Rattle.value.proofs.pair_at.Statement.{statement}
 use Rattle.value.proofs.pair_at.Tie as tie
 
-returns : tie.Need-returns
-returns c = (sym (cond-false _ _ _ (and-no-left _ _ (sym c.before.is_digit.ensures ∙ not-true _ c.if1.true))), search rules)
+returns-then-not-is_digit : tie.Need-returns-then-not-is_digit
+returns-then-not-is_digit c = (sym (cond-false _ _ _ (and-no-left _ _ (sym c.is_digit.ensures ∙ c.if-not-is_digit.true))), search rules)
 
-returns-2 : tie.Need-returns-2
-returns-2 c =
-    let a = c.before.before.before.before.before.before.before.args in
+returns-then-not-is_digit-2 : tie.Need-returns-then-not-is_digit-2
+returns-then-not-is_digit-2 c =
+    let a = c.args in
     let t = between 48 57 (get_or a.v.now a.at 0) in
-    (sym (cond-false _ _ _ (and-no-right t _ (sym c.before.is-digit2.ensures ∙ not-true _ c.if2.true))), search rules)
+    (sym (cond-false _ _ _ (and-no-right t _ (sym c.is_digit-2.ensures ∙ c.if-not-is_digit-2.true))), search rules)
 
 -- the two are digits
 abbrev Digit : ℕ → Type 0
 Digit b = (48 ≤ b) × (b ≤ 57)
 
-digit : (b : ℕ) (t : Bool) → t ≡ between 48 57 b → not t ≡ false → Digit b
-digit b t e h = let f = sym e ∙ not-false t h in (between-low 48 57 b f, between-high 48 57 b f)
+digit : (b : ℕ) (t : Bool) → t ≡ between 48 57 b → t ≡ true → Digit b
+digit b t e h = let f = sym e ∙ h in (between-low 48 57 b f, between-high 48 57 b f)
 
-both : (c : tie.Else2) → (let a = c.before.before.before.before.before.before.before.args in Digit (get_or a.v.now a.at 0) × Digit (get_or a.v.now (a.at + 1) 0))
-both c = (digit _ _ c.before.before.before.is_digit.ensures c.before.before.if1.false, digit _ _ c.before.is-digit2.ensures c.if2.false)
+both : (c : tie.Else-not-is_digit-2) → (let a = c.args in Digit (get_or a.v.now a.at 0) × Digit (get_or a.v.now (a.at + 1) 0))
+both c = (digit _ _ c.is_digit.ensures c.if-not-is_digit.false, digit _ _ c.is_digit-2.ensures c.if-not-is_digit-2.false)
 
-returns-3 : tie.Need-returns-3
-returns-3 c =
+returns : tie.Need-returns
+returns c =
     let s = c.before.before.before.before.before.before.before in
     let h = both c in (
       pair-at s.args.v.now s.args.at s.requires
@@ -41,21 +41,21 @@ returns-3 c =
       omega arith,
     )
 
-pub pair-at-spec : {M : Type 1} → statement M
-pair-at-spec =
+pub pair_at_spec : {M : Type 1} → statement M
+pair_at_spec =
     tie.close
     (tie.spec
     (λ c. search rules)
     (λ c. search rules)
     (λ c. search rules)
     (λ c κs. search rules)
-    returns
+    returns-then-not-is_digit
     (λ c κs. search rules)
-    returns-2
+    returns-then-not-is_digit-2
     (λ c. let h = both c in omega arith)
     (λ c. let h = both c in omega arith)
     (λ c. let h = both c in omega arith)
     (λ c. let h = both c in omega arith)
     (λ c. let h = both c in omega arith)
     (λ c. let h = both c in omega arith)
-    returns-3)
+    returns)

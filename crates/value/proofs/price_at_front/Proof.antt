@@ -14,59 +14,58 @@ use Rattle.value.proofs.price_at_front.Statement.{statement}
 use Rattle.value.proofs.price_at_front.Tie as tie
 
 -- after a point there is a rest
-inside : (c : tie.Else1) → c.before.before.before.read-digits.result.len + 1 ≤ length c.before.before.before.before.before.args.v.now
+inside : (c : tie.Else-not-is_point) → c.read_digits-whole.result.len + 1 ≤ length c.args.v.now
 inside c =
-    let e = sym c.before.is-point.ensures ∙ not-false _ c.if1.false in
-    let h = point-inside c.before.before.before.read-digits.result.len c.before.before.before.before.before.args.v.now e in
+    let e = sym c.is_point.ensures ∙ c.if-not-is_point.false in
+    let h = point-inside c.read_digits-whole.result.len c.args.v.now e in
     omega arith
 
 -- the decimals, scaled, are at most their 10,000-fold
-scaled : (c : tie.After-scale) → (let r = c.before.before.read-digits2.result.value in r * c.scale.result ≤ r * 10000)
+scaled : (c : tie.After-scale) → (let r = c.read_digits-rest.result.value in r * c.scale.result ≤ r * 10000)
 scaled c = mul-le-mul_left _ (rw c.scale.ensures (pow-le-pow_right {n = 10} (lit< tt) {j = 4} (omega arith)))
+
+returns-then-not-is_point : tie.Need-returns-then-not-is_point
+returns-then-not-is_point c = front-plain _ _ c.read_digits-whole.ensures.0 (sym c.is_point.ensures ∙ c.if-not-is_point.true)
+
+slice_bounds-read_digits-count : tie.Need-slice_bounds-read_digits-count
+slice_bounds-read_digits-count c = inside c
+
+slice_bounds-read_digits-start : tie.Need-slice_bounds-read_digits-start
+slice_bounds-read_digits-start c = let h = inside c in search rules
+
+overflow_mul-result : tie.Need-overflow_mul-result
+overflow_mul-result c = omega (arith, scaled c)
+
+overflow_add-result-2 : tie.Need-overflow_add-result-2
+overflow_add-result-2 c = omega (arith, scaled c)
 
 returns : tie.Need-returns
 returns c =
-    front-plain _ _ c.before.before.before.read-digits.ensures.0 (sym c.before.is-point.ensures ∙ not-true _ c.if1.true)
-
-sub-read-digits : tie.Need-overflow-sub-read-digits
-sub-read-digits c = inside c
-
-part-read-digits-start : tie.Need-slice-bounds-read-digits-start
-part-read-digits-start c = let h = inside c in search rules
-
-mul-t17 : tie.Need-overflow-mul-t17
-mul-t17 c = omega (arith, scaled c)
-
-add-t18 : tie.Need-overflow-add-t18
-add-t18 c = omega (arith, scaled c)
-
-returns-2 : tie.Need-returns-2
-returns-2 c =
     let p = c.before.before.before.before in
     let k = p.before.before.before in
-    let v = k.before.before.args.v.now in
-    front-pointed v _ k.read-digits.ensures.0 _ _
-    (c.before.before.read-digits2.ensures.0 ∙ ap (digits_at_front 4) (part-rest v (k.read-digits.result.len + 1)))
+    let v = k.args.v.now in
+    front-pointed v _ k.read_digits-whole.ensures.0 _ _
+    (c.read_digits-rest.ensures.0 ∙ ap (digits_at_front 4) (part-rest v (k.read_digits-whole.result.len + 1)))
     c.scale.ensures
-    (sym p.before.is-point.ensures ∙ not-false _ p.if1.false)
+    (sym p.is_point.ensures ∙ p.if-not-is_point.false)
 
-pub price-at-front-spec : {M : Type 1} → statement M
-price-at-front-spec =
+pub price_at_front_spec : {M : Type 1} → statement M
+price_at_front_spec =
     tie.close
     (tie.spec
     (λ c κs. search rules)
     (λ c. search rules)
     (λ c. search rules)
     (λ c κs. search rules)
-    returns
+    returns-then-not-is_point
     (λ c. search rules)
-    sub-read-digits
-    part-read-digits-start
-    (λ c. search rules)
-    (λ c κs. search rules)
-    (λ c. search rules)
+    slice_bounds-read_digits-count
+    slice_bounds-read_digits-start
     (λ c. search rules)
     (λ c κs. search rules)
-    mul-t17
-    add-t18
-    returns-2)
+    (λ c. search rules)
+    (λ c. search rules)
+    (λ c κs. search rules)
+    overflow_mul-result
+    overflow_add-result-2
+    returns)

@@ -10,37 +10,33 @@ use Rattle.value.proofs.Times.{time-short, time-long, time-formed, time-ranged, 
 use Rattle.value.proofs.read_like.Statement.{statement}
 use Rattle.value.proofs.read_like.Tie as tie
 
-returns : tie.Need-returns
-returns c = time-short _ _ c.before.like-run.ensures c.if1.true
+returns-then-good-v : tie.Need-returns-then-good-v
+returns-then-good-v c = time-short _ _ c.like_run-good.ensures c.if-good-v.true
 
-returns-2 : tie.Need-returns-2
-returns-2 c =
-    time-long _ _ c.before.before.before.like-run.ensures c.before.before.if1.false (sym c.before.is-time-long.ensures ∙ not-true _ c.if2.true)
+returns-then-not-is_time_long : tie.Need-returns-then-not-is_time_long
+returns-then-not-is_time_long c = time-long _ _ c.like_run-good.ensures c.if-good-v.false (sym c.is_time_long.ensures ∙ c.if-not-is_time_long.true)
 
-formed : (c : tie.Else2) → bad_time c.before.before.before.before.before.before.args.v.now ≡ none
+formed : (c : tie.Else-not-is_time_long) → bad_time c.args.v.now ≡ none
 formed c =
-    time-formed _ _ c.before.before.before.like-run.ensures c.before.before.if1.false (sym c.before.is-time-long.ensures ∙ not-false _ c.if2.false)
+    time-formed _ _ c.like_run-good.ensures c.if-good-v.false (sym c.is_time_long.ensures ∙ c.if-not-is_time_long.false)
 
-time-fits-requires : tie.Need-time-fits-requires
-time-fits-requires c κs = time-least _ (formed c)
+time_fits-requires : tie.Need-time_fits-requires
+time_fits-requires c κs = time-least _ (formed c)
 
-returns-3 : tie.Need-returns-3
-returns-3 c =
-    sym (time-ranged _ (formed c.before.before) ∙ ap (λ (t : Bool). cond t Good OutOfRange) (sym c.before.time-fits.ensures ∙ not-true _ c.if3.true))
+returns-then-not-time_fits : tie.Need-returns-then-not-time_fits
+returns-then-not-time_fits c = sym (time-ranged _ (formed c.before.before) ∙ ap (λ (t : Bool). cond t Good OutOfRange) (sym c.time_fits.ensures ∙ c.if-not-time_fits.true))
 
-returns-4 : tie.Need-returns-4
-returns-4 c =
-    sym (time-ranged _ (formed c.before.before) ∙ ap (λ (t : Bool). cond t Good OutOfRange) (sym c.before.time-fits.ensures ∙ not-false _ c.if3.false))
+returns : tie.Need-returns
+returns c = sym (time-ranged _ (formed c.before.before) ∙ ap (λ (t : Bool). cond t Good OutOfRange) (sym c.time_fits.ensures ∙ c.if-not-time_fits.false))
 
-pub read-like-spec : {M : Type 1} → statement M
-read-like-spec =
+pub read_like_spec : {M : Type 1} → statement M
+read_like_spec =
     tie.close
     (tie.spec
-    (λ c. search rules)
     (λ c κs. search rules)
-    returns
+    returns-then-good-v
     (λ c κs. search rules)
-    returns-2
-    time-fits-requires
-    returns-3
-    returns-4)
+    returns-then-not-is_time_long
+    time_fits-requires
+    returns-then-not-time_fits
+    returns)
