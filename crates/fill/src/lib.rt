@@ -1,5 +1,6 @@
 // A slot is a byte that says what it is, a fill or an entry, and its body: here the fill's, as the F note has it after E and O, and what is said of any slot.
 #![tactic(auto)]
+
 mod entries; // the entry's
 
 ghost use Rattle.std.specs.Prelude.{◌≡◌, cond, ◌++◌, ◌+◌, ◌≤◌, length};

@@ -1,6 +1,7 @@
 // Finding a message at the front of the bytes that have come: an opening, `9=`, 1 to 4 digits, `|`, a body of that many bytes, `10=`,
 // three digits, `|`. One function for each layer of the definition, its tests in the paper's order.
 #![tactic(auto)]
+
 ghost use Rattle.std.specs.Prelude.{◌≡◌, ◌≤◌, length};
 ghost use Rattle.frame.specs.Finding.{skip_of, trailer_of, body_ok, judge_whole, judge_length, judge_digits, judge_opening, found_by, found_in, body_by, body_in};
 

@@ -25,97 +25,79 @@ mark-in : (t : tie.Start) → t.args.at + until_byte 1 (rest_of t) ≤ length t.
 mark-in t = omega (arith, until-most 1 (rest_of t), length-drop t.args.at t.args.body.now, t.requires)
 
 -- the digits and the test for a tag are those of it
-read : (d : tie.After-digits-of) → d.digits_of.result ≡ digits_at_front 6 (rest_of d.before.before.before)
-read d = d.digits_of.ensures.0 ∙ ap (digits_at_front 6) (whole d.before.before.before)
+read : (d : tie.After-digits_of-digits) → d.digits_of-digits.result ≡ digits_at_front 6 (rest_of d.before.before.before)
+read d = d.digits_of-digits.ensures.0 ∙ ap (digits_at_front 6) (whole d.before.before.before)
 
-told : (q : tie.After-is-tagged) → q.is-tagged.result ≡ tagged (rest_of q.before.before.before.before)
-told q = q.is-tagged.ensures ∙ ap tagged (whole q.before.before.before.before)
+told : (q : tie.After-is_tagged) → q.is_tagged.result ≡ tagged (rest_of q.before.before.before.before)
+told q = q.is_tagged.ensures ∙ ap tagged (whole q.before.before.before.before)
 
-is-tagged-requires : tie.Need-is-tagged-requires
-is-tagged-requires c κs = len_is _ _ c.digits_of.ensures.0
+is_tagged-requires : tie.Need-is_tagged-requires
+is_tagged-requires c κs = len_is _ _ c.digits_of-digits.ensures.0
 
 -- ---- a tag
+tag-there : (c : tie.Then-is_tagged) → tagged (rest_of c.before.before.before.before.before) ≡ true
+tag-there c = sym (told c.before) ∙ c.if-is_tagged.true
 
-tag-there : (c : tie.Then1) → tagged (rest_of c.before.before.before.before.before) ≡ true
-tag-there c = sym (told c.before) ∙ c.if1.true
+slice_bounds-until_bar-count : tie.Need-slice_bounds-until_bar-count
+slice_bounds-until_bar-count c = omega (arith, tag-mark _ _ (read c.before.before) (tag-there c), until-most 1 (rest_of c.before.before.before.before.before), ap length (whole c.before.before.before.before.before))
 
-sub-until : tie.Need-overflow-sub-until-bar
-sub-until c =
-    let t = c.before.before.before.before.before in
-    omega (arith, tag-mark _ _ (read c.before.before) (tag-there c), until-most 1 (rest_of t), ap length (whole t))
-
-behind-tag : (u : tie.After-until-bar) → let d = u.before.before.before.before in
-    u.until-bar.result ≡ until_byte 1 (drop (d.digits_of.result.len + 1) (rest_of d.before.before.before))
+behind-tag : (u : tie.After-until_bar-len) → u.until_bar-len.result ≡ until_byte 1 (drop (u.digits_of-digits.result.len + 1) (rest_of u.before.before.before.before.before.before.before))
 behind-tag u =
-    let d = u.before.before.before.before in
-    let t = d.before.before.before in
-    rw (u.until-bar.ensures, whole t, part-rest (rest_of t) (d.digits_of.result.len + 1))
+    rw (u.until_bar-len.ensures, whole u.before.before.before.before.before.before.before, part-rest (rest_of u.before.before.before.before.before.before.before) (u.digits_of-digits.result.len + 1))
 
-mark-is : (u : tie.After-until-bar) → let d = u.before.before.before.before in
-    until_byte 1 (rest_of d.before.before.before) ≡ d.digits_of.result.len + 1 + u.until-bar.result
+mark-is : (u : tie.After-until_bar-len) → until_byte 1 (rest_of u.before.before.before.before.before.before.before) ≡ u.digits_of-digits.result.len + 1 + u.until_bar-len.result
 mark-is u =
-    let d = u.before.before.before.before in
-    tag-mark _ _ (read d) (tag-there u.before.before) ∙ ap (λ (n : ℕ). d.digits_of.result.len + 1 + n) (sym (behind-tag u))
+    tag-mark _ _ (read u.before.before.before.before) (tag-there u.before.before) ∙ ap (λ (n : ℕ). u.digits_of-digits.result.len + 1 + n) (sym (behind-tag u))
 
-add-after : tie.Need-overflow-add-after
-add-after c = let t = c.before.before.before.before.before.before.before in omega (arith, mark-is c, mark-in t)
+overflow_add-start-then-is_tagged : tie.Need-overflow_add-start-then-is_tagged
+overflow_add-start-then-is_tagged c = omega (arith, mark-is c, mark-in c.before.before.before.before.before.before.before)
+
+returns-then-is_tagged : tie.Need-returns-then-is_tagged
+returns-then-is_tagged c =
+    step_is c.args.at c.args.body.now _ _
+    (is_field _ _ (read c.before.before.before.before.before) c.args.at _ (tag-there c.before.before.before) (behind-tag c.before))
+    (c.after.ensures ∙ omega (arith, mark-is c.before))
+
+-- ---- none
+stray-is : (u : tie.After-until) → until_byte 1 (rest_of u.before.before.before.before.before.before.before) ≡ u.digits_of-digits.result.len + u.until.result
+stray-is u =
+    stray-mark _ _ (read u.before.before.before.before) ∙ rw (u.until.ensures, whole u.before.before.before.before.before.before.before, part-rest (rest_of u.before.before.before.before.before.before.before) u.digits_of-digits.result.len)
+
+overflow_add-n : tie.Need-overflow_add-n
+overflow_add-n c = omega (arith, stray-is c, mark-in c.before.before.before.before.before.before.before)
+
+overflow_add-at : tie.Need-overflow_add-at
+overflow_add-at c = omega (arith, stray-is c, mark-in c.before.before.before.before.before.before.before)
 
 returns : tie.Need-returns
 returns c =
-    let u = c.before in
-    let d = u.before.before.before.before in
-    let t = d.before.before.before in
-    step_is t.args.at t.args.body.now _ _
-    (is_field _ _ (read d) t.args.at _ (tag-there u.before.before) (behind-tag u))
-    (c.after.ensures ∙ omega (arith, mark-is u))
+    step_is c.args.at c.args.body.now _ _
+    (is-stray (rest_of c.before.before.before.before.before.before.before.before) c.args.at (sym (told c.before.before.before.before) ∙ c.if-is_tagged.false))
+    (c.after-2.ensures ∙ omega (arith, stray-is c.before))
 
--- ---- none
-
-stray-is : (u : tie.After-until) → let d = u.before.before.before.before in
-    until_byte 1 (rest_of d.before.before.before) ≡ d.digits_of.result.len + u.until.result
-stray-is u =
-    let d = u.before.before.before.before in
-    let t = d.before.before.before in
-    stray-mark _ _ (read d) ∙ rw (u.until.ensures, whole t, part-rest (rest_of t) d.digits_of.result.len)
-
-add-n : tie.Need-overflow-add-n
-add-n c = let t = c.before.before.before.before.before.before.before in omega (arith, stray-is c, mark-in t)
-
-add-after-2 : tie.Need-overflow-add-after-2
-add-after-2 c = let t = c.before.before.before.before.before.before.before in omega (arith, stray-is c, mark-in t)
-
-returns-2 : tie.Need-returns-2
-returns-2 c =
-    let u = c.before in
-    let q = u.before.before.before in
-    let t = q.before.before.before.before in
-    step_is t.args.at t.args.body.now _ _
-    (is-stray (rest_of t) t.args.at (sym (told q) ∙ u.before.before.if1.false))
-    (c.after2.ensures ∙ omega (arith, stray-is u))
-
-pub step-from-spec : {M : Type 1} → statement M
-step-from-spec =
+pub step_from_spec : {M : Type 1} → statement M
+step_from_spec =
     tie.close
     (tie.spec
     (λ c. search rules)
     (λ c. search rules)
     (λ c. search rules)
     (λ c κs. search rules)
-    is-tagged-requires
+    is_tagged-requires
     (λ c. search rules)
     (λ c. search rules)
-    sub-until
-    sub-until
-    (λ c. search rules)
-    (λ c κs. search rules)
-    add-after
-    (λ c κs. search rules)
-    returns
-    (λ c. search rules)
-    (λ c. search rules)
+    slice_bounds-until_bar-count
+    slice_bounds-until_bar-count
     (λ c. search rules)
     (λ c κs. search rules)
-    add-n
-    add-after-2
+    overflow_add-start-then-is_tagged
     (λ c κs. search rules)
-    returns-2)
+    returns-then-is_tagged
+    (λ c. search rules)
+    (λ c. search rules)
+    (λ c. search rules)
+    (λ c κs. search rules)
+    overflow_add-n
+    overflow_add-at
+    (λ c κs. search rules)
+    returns)

@@ -12,63 +12,62 @@ use borrow.Author.Rules.{rules}
 use Rattle.frame.proofs.body_by.Statement.{statement}
 use Rattle.frame.proofs.body_by.Tie as tie
 
-told : (c : tie.After-run-in) →
-    let a = c.before.before.before.before.before.args in
+told : (c : tie.After-run_in) →
+    let a = c.args in
     c.run_in.result ≡ digit_run (drop (length a.o.now + 2) a.s.now)
 told c =
-    let a = c.before.before.before.before.before.args in
+    let a = c.args in
     c.run_in.ensures ∙ ap digit_run (part-rest a.s.now (length a.o.now + 2))
 
 -- the digits lie within the bytes
-within : (c : tie.After-run-in) →
-    let a = c.before.before.before.before.before.args in
+within : (c : tie.After-run_in) →
+    let a = c.args in
     length a.o.now + 2 + c.run_in.result ≤ length a.s.now
 within c =
-    let a = c.before.before.before.before.before.args in
+    let a = c.args in
     let rest = drop (length a.o.now + 2) a.s.now in
     omega (arith, told c, run-most 48 57 rest, length-drop (length a.o.now + 2) a.s.now)
 
+returns-then-s-at : tie.Need-returns-then-s-at
+returns-then-s-at c =
+    let a = c.args in
+    sym (body-past a.o.now a.s.now a.length c.if-s-at.true)
+
+overflow_add-begin : tie.Need-overflow_add-begin
+overflow_add-begin c = omega (arith, within c)
+
+overflow_add-begin-2 : tie.Need-overflow_add-begin-2
+overflow_add-begin-2 c = omega (arith, within c)
+
+overflow_add-begin-3 : tie.Need-overflow_add-begin-3
+overflow_add-begin-3 c = omega (arith, within c)
+
+returns-then-length-begin : tie.Need-returns-then-length-begin
+returns-then-length-begin c =
+    let a = c.args in
+    sym (body-none a.o.now a.s.now a.length (omega (arith, told c.before)))
+
 returns : tie.Need-returns
-returns c =
-    let a = c.before.before.before.before.args in
-    sym (body-past a.o.now a.s.now a.length c.before.if1.true)
-
-add_begin : tie.Need-overflow-add-begin
-add_begin c = omega (arith, within c)
-
-add-begin-2 : tie.Need-overflow-add-begin-2
-add-begin-2 c = omega (arith, within c)
-
-add-if2 : tie.Need-overflow-add-if2
-add-if2 c = omega (arith, within c)
-
-returns-2 : tie.Need-returns-2
-returns-2 c =
-    let a = c.before.before.before.before.before.before.before.args in
-    sym (body-none a.o.now a.s.now a.length (omega (arith, told c.before.before)))
-
-returns-3 : tie.Need-returns-3
 unfolding body_by
-returns-3 c =
-    simp (sym (told c.before.before)) c.part.ensures
+returns c = simp (sym (told c.before.before)) c.part.ensures
 
-pub body-by-spec : {M : Type 1} → statement M
-body-by-spec =
+pub body_by_spec : {M : Type 1} → statement M
+body_by_spec =
     tie.close
     (tie.spec
     (λ c. search rules)
     (λ c. search rules)
-    returns
+    returns-then-s-at
     (λ c. search rules)
     (λ c. search rules)
     (λ c. search rules)
     (λ c κs. search rules)
-    add_begin
-    add-begin-2
-    add-if2
+    overflow_add-begin
+    overflow_add-begin-2
+    overflow_add-begin-3
     (λ c. search rules)
-    returns-2
+    returns-then-length-begin
     (λ c. search rules)
     (λ c. search rules)
     (λ c κs. search rules)
-    returns-3)
+    returns)

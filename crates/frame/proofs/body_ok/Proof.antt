@@ -13,61 +13,55 @@ use borrow.Author.Rules.{rules}
 use Rattle.frame.proofs.body_ok.Statement.{statement}
 use Rattle.frame.proofs.body_ok.Tie as tie
 
-abbrev body_of : tie.After-until → List ℕ
-body_of c = c.before.before.before.before.before.before.args.b.now
+abbrev body_of : tie.After-until-k → List ℕ
+body_of c = c.args.b.now
 
-begun : (c : tie.Else1) → agree (bytes_of "35=") c.before.before.before.before.args.b.now ≡ true
-begun c = sym c.before.agree.ensures ∙ not-false _ c.if1.false
+begun : (c : tie.Else-not-agree) → agree (bytes_of "35=") c.args.b.now ≡ true
+begun c = sym c.agree.ensures ∙ c.if-not-agree.false
 
-told : (c : tie.After-until) → c.until.result ≡ until_byte 1 (drop 3 (body_of c))
-told c = c.until.ensures ∙ ap (until_byte 1) (part-rest (body_of c) 3)
+told : (c : tie.After-until-k) → c.until-k.result ≡ until_byte 1 (drop 3 (body_of c))
+told c = c.until-k.ensures ∙ ap (until_byte 1) (part-rest (body_of c) 3)
 
-after : (c : tie.After-until) → length (drop 3 (body_of c)) ≡ length (body_of c) - 3
+after : (c : tie.After-until-k) → length (drop 3 (body_of c)) ≡ length (body_of c) - 3
 after c = length-drop 3 (body_of c)
+
+returns-then-not-agree : tie.Need-returns-then-not-agree
+unfolding body_ok
+returns-then-not-agree c = simp (sym c.agree.ensures ∙ c.if-not-agree.true)
+
+returns-then-k-lt1 : tie.Need-returns-then-k-lt1
+unfolding body_ok
+returns-then-k-lt1 c = simp (begun c.before.before.before, sym (told c.before), lt-leb _ _ c.if-k-lt1.true)
+
+returns-then-k-gt3 : tie.Need-returns-then-k-gt3
+unfolding body_ok
+returns-then-k-gt3 c = simp (begun c.before.before.before.before, sym (told c.before.before), le-leb _ _ c.if-k-lt1.false, lt-leb _ _ c.if-k-gt3.true)
+
+returns-then-t-k : tie.Need-returns-then-t-k
+unfolding body_ok
+returns-then-t-k c =
+    simp
+    (begun c.before.before.before.before.before, sym (told c.before.before.before), le-leb _ _ c.if-k-lt1.false, le-leb _ _ c.if-k-gt3.false, le-ltb c.until-k.result (length (drop 3 (body_of c.before.before.before))) (omega (arith, after c.before.before.before)))
 
 returns : tie.Need-returns
 unfolding body_ok
-returns c = simp (sym c.before.agree.ensures ∙ not-true _ c.if1.true)
-
-returns-2 : tie.Need-returns-2
-unfolding body_ok
-returns-2 c = simp (begun c.before.before.before, sym (told c.before), lt-leb _ _ c.if2.true)
-
-returns-3 : tie.Need-returns-3
-unfolding body_ok
-returns-3 c =
-    let e = c.before in
-    simp (begun e.before.before.before, sym (told e.before), le-leb _ _ e.if2.false, lt-leb _ _ c.if3.true)
-
-returns-4 : tie.Need-returns-4
-unfolding body_ok
-returns-4 c =
-    let e = c.before.before in
+returns c =
     simp
-    (begun e.before.before.before, sym (told e.before), le-leb _ _ e.if2.false, le-leb _ _ c.before.if3.false, le-ltb e.before.until.result (length (drop 3 (body_of e.before))) (omega (arith, after e.before)))
+    (begun c.before.before.before.before.before.before, sym (told c.before.before.before.before), le-leb _ _ c.if-k-lt1.false, le-leb _ _ c.if-k-gt3.false, lt-ltb c.until-k.result (length (drop 3 (body_of c.before.before.before.before))) (omega (arith, after c.before.before.before.before)))
 
-returns-5 : tie.Need-returns-5
-unfolding body_ok
-returns-5 c =
-    let f = c.before in
-    let e = f.before.before in
-    simp
-    (begun e.before.before.before, sym (told e.before), le-leb _ _ e.if2.false, le-leb _ _ f.before.if3.false, lt-ltb e.before.until.result (length (drop 3 (body_of e.before))) (omega (arith, after e.before)))
-
-pub body-ok-spec : {M : Type 1} → statement M
-body-ok-spec =
+pub body_ok_spec : {M : Type 1} → statement M
+body_ok_spec =
     tie.close
     (tie.spec
+    (λ c κs. search rules)
+    returns-then-not-agree
+    (λ c. search rules)
+    (λ c. search rules)
     (λ c. search rules)
     (λ c κs. search rules)
-    returns
+    returns-then-k-lt1
+    returns-then-k-gt3
+    returns-then-t-k
     (λ c. search rules)
     (λ c. search rules)
-    (λ c. search rules)
-    (λ c κs. search rules)
-    returns-2
-    returns-3
-    returns-4
-    (λ c. search rules)
-    (λ c. search rules)
-    returns-5)
+    returns)

@@ -9,48 +9,42 @@ use borrow.Author.Rules.{rules}
 use Rattle.frame.proofs.judge_digits.Statement.{statement}
 use Rattle.frame.proofs.judge_digits.Tie as tie
 
-told : (c : tie.After-read-digits) →
-    let a = c.before.before.before.args in
-    c.read-digits.result ≡ digits_at_front 5 (drop a.at a.s.now)
-told c = let a = c.before.before.before.args in c.read-digits.ensures.0 ∙ ap (digits_at_front 5) (part-rest a.s.now a.at)
+told : (c : tie.After-read_digits-d) →
+    let a = c.args in
+    c.read_digits-d.result ≡ digits_at_front 5 (drop a.at a.s.now)
+told c = let a = c.args in c.read_digits-d.ensures.0 ∙ ap (digits_at_front 5) (part-rest a.s.now a.at)
+
+returns-then-width-gt-MOST_DIGITS : tie.Need-returns-then-width-gt-MOST_DIGITS
+returns-then-width-gt-MOST_DIGITS c =
+    let a = c.args in
+    sym (digits-many a.at a.s.now c.read_digits-d.result (told c.before) c.if-width-gt-MOST_DIGITS.true)
+
+returns-then-s-end : tie.Need-returns-then-s-end
+returns-then-s-end c =
+    let a = c.args in
+    simp (digits-few a.at a.s.now c.read_digits-d.result (told c.before.before) c.if-width-gt-MOST_DIGITS.false, le-leb _ _ c.if-s-end.true)
+
+returns-then-width-lt1 : tie.Need-returns-then-width-lt1
+returns-then-width-lt1 c =
+    let a = c.args in
+    simp
+    (digits-few a.at a.s.now c.read_digits-d.result (told c.before.before.before) c.if-width-gt-MOST_DIGITS.false, lt-leb _ _ c.if-s-end.false, lt-leb _ _ c.if-width-lt1.true)
+
+returns-then-s-end-ne-BAR : tie.Need-returns-then-s-end-ne-BAR
+returns-then-s-end-ne-BAR c =
+    let a = c.args in
+    simp
+    (digits-few a.at a.s.now c.read_digits-d.result (told c.before.before.before.before.before) c.if-width-gt-MOST_DIGITS.false, lt-leb _ _ c.if-s-end.false, le-leb _ _ c.if-width-lt1.false, ne_eqb _ _ c.if-s-end-ne-BAR.true)
 
 returns : tie.Need-returns
 returns c =
-    let a = c.before.before.before.before.args in
-    sym (digits-many a.at a.s.now c.before.read-digits.result (told c.before) c.if1.true)
-
-returns-2 : tie.Need-returns-2
-returns-2 c =
-    let e = c.before in
-    let a = e.before.before.before.before.args in
-    simp (digits-few a.at a.s.now e.before.read-digits.result (told e.before) e.if1.false, le-leb _ _ c.if2.true)
-
-returns-3 : tie.Need-returns-3
-returns-3 c =
-    let e = c.before.before in
-    let a = e.before.before.before.before.args in
+    let a = c.args in
     simp
-    (digits-few a.at a.s.now e.before.read-digits.result (told e.before) e.if1.false, lt-leb _ _ c.before.if2.false, lt-leb _ _ c.if3.true)
+    (digits-few a.at a.s.now c.read_digits-d.result (told c.before.before.before.before.before.before.before) c.if-width-gt-MOST_DIGITS.false, lt-leb _ _ c.if-s-end.false, le-leb _ _ c.if-width-lt1.false, eq-eqb _ _ c.if-s-end-ne-BAR.false)
+    c.judge_length.ensures
 
-returns-4 : tie.Need-returns-4
-returns-4 c =
-    let f = c.before.before in
-    let e = f.before.before in
-    let a = e.before.before.before.before.args in
-    simp
-    (digits-few a.at a.s.now e.before.read-digits.result (told e.before) e.if1.false, lt-leb _ _ f.before.if2.false, le-leb _ _ f.if3.false, ne_eqb _ _ c.if4.true)
-
-returns-5 : tie.Need-returns-5
-returns-5 c =
-    let f = c.before.before.before.before in
-    let e = f.before.before in
-    let a = e.before.before.before.before.args in
-    simp
-    (digits-few a.at a.s.now e.before.read-digits.result (told e.before) e.if1.false, lt-leb _ _ f.before.if2.false, le-leb _ _ f.if3.false, eq-eqb _ _ c.before.before.if4.false)
-    c.judge-length.ensures
-
-pub judge-digits-spec : {M : Type 1} → statement M
-judge-digits-spec =
+pub judge_digits_spec : {M : Type 1} → statement M
+judge_digits_spec =
     tie.close
     (tie.spec
     (λ c. search rules)
@@ -58,13 +52,13 @@ judge-digits-spec =
     (λ c. search rules)
     (λ c. search rules)
     (λ c κs. search rules)
-    returns
+    returns-then-width-gt-MOST_DIGITS
     (λ c. search rules)
-    returns-2
-    returns-3
+    returns-then-s-end
+    returns-then-width-lt1
     (λ c. search rules)
-    returns-4
+    returns-then-s-end-ne-BAR
     (λ c. search rules)
     (λ c. search rules)
     (λ c κs. search rules)
-    returns-5)
+    returns)

@@ -12,58 +12,54 @@ use borrow.Author.Rules.{rules}
 use Rattle.frame.proofs.judge_opening.Statement.{statement}
 use Rattle.frame.proofs.judge_opening.Tie as tie
 
-opened : (c : tie.Else1) → let a = c.before.before.before.before.args in agree a.o.now a.s.now ≡ true
-opened c = sym c.before.agree.ensures ∙ not-false _ c.if1.false
+opened : (c : tie.Else-not-agree) → let a = c.args in agree a.o.now a.s.now ≡ true
+opened c = sym c.agree.ensures ∙ c.if-not-agree.false
 
-tag : (c : tie.After-agree2) →
-    let a = c.before.before.before.before.before.before.before.before.args in
-    c.agree2.result ≡ agree (bytes_of "9=") (drop (length a.o.now) a.s.now)
+tag : (c : tie.After-agree-2) →
+    let a = c.args in
+    c.agree-2.result ≡ agree (bytes_of "9=") (drop (length a.o.now) a.s.now)
 tag c =
-    let a = c.before.before.before.before.before.before.before.before.args in
-    c.agree2.ensures ∙ ap (agree (bytes_of "9=")) (part-rest a.s.now (length a.o.now))
+    let a = c.args in
+    c.agree-2.ensures ∙ ap (agree (bytes_of "9=")) (part-rest a.s.now (length a.o.now))
 
-returns : tie.Need-returns
-returns c = simp (judge-two, sym c.before.agree.ensures ∙ not-true _ c.if1.true)
+returns-then-not-agree : tie.Need-returns-then-not-agree
+returns-then-not-agree c = simp (judge-two, sym c.agree.ensures ∙ c.if-not-agree.true)
 
-returns-2 : tie.Need-returns-2
-returns-2 c =
-    let a = c.before.before.before.before.before.args in
+returns-then-s-at : tie.Need-returns-then-s-at
+returns-then-s-at c =
+    let a = c.args in
     let h : length a.s.now ≤ length a.o.now = omega arith in
     simp (judge-two, opened c.before, drop_of_length-le a.s.now h, digits-past (length a.o.now + 2) a.s.now (omega arith))
 
-returns-3 : tie.Need-returns-3
-returns-3 c =
-    simp (judge-two, opened c.before.before.before.before.before, sym (tag c.before) ∙ not-true _ c.if3.true)
+returns-then-not-agree-2 : tie.Need-returns-then-not-agree-2
+returns-then-not-agree-2 c = simp (judge-two, opened c.before.before.before.before.before.before, sym (tag c.before) ∙ c.if-not-agree-2.true)
 
-returns-4 : tie.Need-returns-4
-returns-4 c =
-    let a = c.before.before.before.before.before.before.before.before.before.before.args in
-    let e = c.before in
+returns-then-s-at-2 : tie.Need-returns-then-s-at-2
+returns-then-s-at-2 c =
+    let a = c.args in
     simp
-    (judge-two, opened e.before.before.before.before.before, sym (tag e.before) ∙ not-false _ e.if3.false, digits-past (length a.o.now + 2) a.s.now (omega arith))
+    (judge-two, opened c.before.before.before.before.before.before.before, sym (tag c.before.before) ∙ c.if-not-agree-2.false, digits-past (length a.o.now + 2) a.s.now (omega arith))
 
-returns-5 : tie.Need-returns-5
-returns-5 c =
-    let e = c.before.before in
+returns : tie.Need-returns
+returns c =
     simp
-    (judge-two, opened e.before.before.before.before.before, sym (tag e.before) ∙ not-false _ e.if3.false)
-    c.judge-digits.ensures
+    (judge-two, opened c.before.before.before.before.before.before.before.before, sym (tag c.before.before.before) ∙ c.if-not-agree-2.false)
+    c.judge_digits.ensures
 
-pub judge-opening-spec : {M : Type 1} → statement M
-judge-opening-spec =
+pub judge_opening_spec : {M : Type 1} → statement M
+judge_opening_spec =
     tie.close
     (tie.spec
     (λ c κs. search rules)
-    returns
-    returns-2
-    (λ c. search rules)
+    returns-then-not-agree
+    returns-then-s-at
     (λ c. search rules)
     (λ c. search rules)
     (λ c. search rules)
     (λ c κs. search rules)
-    returns-3
+    returns-then-not-agree-2
     (λ c. search rules)
-    returns-4
+    returns-then-s-at-2
     (λ c. search rules)
     (λ c κs. search rules)
-    returns-5)
+    returns)

@@ -13,60 +13,57 @@ use borrow.Author.Rules.{rules}
 use Rattle.frame.proofs.judge_whole.Statement.{statement}
 use Rattle.frame.proofs.judge_whole.Tie as tie
 
-body : (c : tie.After-body-ok) →
-    let a = c.before.before.before.before.args in
+body : (c : tie.After-body_ok) →
+    let a = c.args in
     c.body_ok.result ≡ body_ok (part a.at a.n a.s.now)
-body c = let a = c.before.before.before.before.args in c.body_ok.ensures ∙ ap body_ok (part-sized a.s.now a.at a.n)
+body c = let a = c.args in c.body_ok.ensures ∙ ap body_ok (part-sized a.s.now a.at a.n)
 
 -- the trailer that is made is that of the sum, and the part that it is compared with is the rest
 sealed : (c : tie.After-agree) →
-    let a = c.before.before.before.before.before.before.before.before.before.before.before.args in
+    let a = c.args in
     c.agree.result ≡ agree (trailer_of (check_sum (take (a.at + a.n) a.s.now))) (drop (a.at + a.n) a.s.now)
 sealed c =
-    let a = c.before.before.before.before.before.before.before.before.before.before.before.args in
-    let t = c.before.before.before in
-    c.agree.ensures ∙ ap₂ agree (t.trailer.ensures ∙ ap trailer_of t.before.byte-sum.ensures) (part-rest a.s.now (a.at + a.n))
+    let a = c.args in
+    c.agree.ensures ∙ ap₂ agree (c.trailer-t.ensures ∙ ap trailer_of c.byte_sum.ensures) (part-rest a.s.now (a.at + a.n))
+
+returns-then-s-end : tie.Need-returns-then-s-end
+unfolding judge_whole
+returns-then-s-end c = simp (lt-ltb _ _ c.if-s-end.true)
+
+returns-then-not-body_ok : tie.Need-returns-then-not-body_ok
+unfolding judge_whole
+returns-then-not-body_ok c = simp (le-ltb _ _ c.if-s-end.false, sym (body c.before) ∙ c.if-not-body_ok.true)
+
+slice_bounds-byte_sum-end : tie.Need-slice_bounds-byte_sum-end
+slice_bounds-byte_sum-end c =
+    let a = c.args in
+    sym (length-take-le (a.at + a.n) a.s.now (omega arith))
+
+returns-then-not-agree : tie.Need-returns-then-not-agree
+unfolding judge_whole
+returns-then-not-agree c =
+    simp
+    (le-ltb _ _ c.if-s-end.false, sym (body c.before.before.before.before.before.before.before) ∙ c.if-not-body_ok.false, sym (sealed c.before) ∙ c.if-not-agree.true)
 
 returns : tie.Need-returns
 unfolding judge_whole
-returns c = simp (lt-ltb _ _ c.if1.true)
-
-returns-2 : tie.Need-returns-2
-unfolding judge_whole
-returns-2 c = simp (le-ltb _ _ c.before.before.before.if1.false, sym (body c.before) ∙ not-true _ c.if2.true)
-
-slice-aggregate-byte-sum : tie.Need-slice-aggregate-byte-sum
-slice-aggregate-byte-sum c =
-    let a = c.before.before.before.before.before.before.args in
-    sym (length-take-le (a.at + a.n) a.s.now (omega arith))
-
-returns-3 : tie.Need-returns-3
-unfolding judge_whole
-returns-3 c =
-    let e = c.before.before.before.before.before.before.before in
+returns c =
     simp
-    (le-ltb _ _ e.before.before.before.if1.false, sym (body e.before) ∙ not-false _ e.if2.false, sym (sealed c.before) ∙ not-true _ c.if3.true)
+    (le-ltb _ _ c.if-s-end.false, sym (body c.before.before.before.before.before.before.before) ∙ c.if-not-body_ok.false, sym (sealed c.before) ∙ c.if-not-agree.false)
 
-returns-4 : tie.Need-returns-4
-unfolding judge_whole
-returns-4 c =
-    let e = c.before.before.before.before.before.before.before in
-    simp
-    (le-ltb _ _ e.before.before.before.if1.false, sym (body e.before) ∙ not-false _ e.if2.false, sym (sealed c.before) ∙ not-false _ c.if3.false)
-
-pub judge-whole-spec : {M : Type 1} → statement M
-judge-whole-spec =
+pub judge_whole_spec : {M : Type 1} → statement M
+judge_whole_spec =
     tie.close
     (tie.spec
     (λ c. search rules)
     (λ c. search rules)
-    returns
+    returns-then-s-end
     (λ c. search rules)
     (λ c. search rules)
     (λ c. search rules)
     (λ c κs. search rules)
-    returns-2
-    slice-aggregate-byte-sum
+    returns-then-not-body_ok
+    slice_bounds-byte_sum-end
     (λ c κs. search rules)
     (λ c κs. search rules)
     (λ c. search rules)
@@ -74,6 +71,6 @@ judge-whole-spec =
     (λ c. search rules)
     (λ c. search rules)
     (λ c κs. search rules)
-    returns-3
+    returns-then-not-agree
     (λ c. search rules)
-    returns-4)
+    returns)

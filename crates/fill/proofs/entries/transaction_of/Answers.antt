@@ -1,0 +1,7 @@
+use mathlib.Core.Path.{sym, ◌∙◌}
+use Rattle.fill.specs.Entry.{entry_place_of}
+use Rattle.fill.proofs.Made.{byte-number}
+use Rattle.fill.proofs.entries.transaction_of.Goals as goal
+
+pub returns : goal.returns
+returns c = c.byte_at.ensures ∙ sym (byte-number (entry_place_of 3) c.args.s.now)
