@@ -1,5 +1,6 @@
 // The messages that we write: what to say is an enum, and one function lays its fields out, whatever the opening.
 #![tactic(auto)]
+
 ghost use Rattle.std.specs.Prelude.{◌≡◌, [], ◌∷◌, ◌+◌, ◌≤◌, length};
 ghost use Rattle.answer.specs.Setup.{id_of};
 ghost use Rattle.text.specs.Fields.{◌is◌, field_bytes, layout};

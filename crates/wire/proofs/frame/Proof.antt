@@ -17,30 +17,29 @@ use borrow.Author.Rules.{rules}
 use Rattle.wire.proofs.frame.Statement.{statement}
 use Rattle.wire.proofs.frame.Tie as tie
 
-abbrev start : tie.After-part-at2 → tie.Start
+abbrev start : tie.After-part_at-end → tie.Start
 start c = c.before.before.before.before.before.before.before.before
 
-abbrev Head : tie.After-part-at2 → List ℕ
+abbrev Head : tie.After-part_at-end → List ℕ
 Head c = headed (start c).args.opening.now (start c).args.body.now
 
-full : (c : tie.After-byte-sum-arg) → length c.before.before.before.part-at2.new.0 ≡ room
+full : (c : tie.After-byte-sum-arg) → length c.part-at2.new.0 ≡ room
 full c = search rules
 
-short : (c : tie.After-part-at2) → length (Head c) ≤ 408
+short : (c : tie.After-part_at-end) → length (Head c) ≤ 408
 short c = let s = start c in omega (arith, headed-length s.args.opening.now s.args.body.now (omega (arith, s.pre)), s.pre)
 
-head-is : (c : tie.After-part-at2) → text_with c.part-at2.new.0 c.part-at2.result ≡ puts (text_with (start c).args.b.now 0) (Head c)
+head-is : (c : tie.After-part_at-end) → text_with c.part_at-end.new.b c.part_at-end.result ≡ puts (text_with (start c).args.b.now 0) (Head c)
 unfolding headed
 head-is c =
-    let n = c.before.before in
-    simp (c.part-at2.ensures, n.number_at.ensures, n.before.before.part_at.ensures, take-length, puts-puts, append_assoc)
+    simp (c.part_at-end.ensures, c.number_at-start.ensures, c.part_at-length.ensures, take-length, puts-puts, append_assoc)
 
 front : (c : tie.After-byte-sum-arg)
-    → (let h = c.before.before.before in (h.part-at2.result ≡ length (Head h)) × (take h.part-at2.result h.part-at2.new.0 ≡ Head h))
-front c = let h = c.before.before.before in put_front (start h).args.b.now h.part-at2.new.0 h.part-at2.result (Head h) (full c) (omega (arith, short h)) (head-is h)
+    → ((c.part-at2.result ≡ length (Head h)) × (take c.part-at2.result c.part-at2.new.0 ≡ Head h))
+front c = put_front (start h).args.b.now c.part-at2.new.0 c.part-at2.result (Head h) (full c) (omega (arith, short h)) (head-is h)
 
-slice-aggregate-byte-sum : tie.Need-slice-aggregate-byte-sum
-slice-aggregate-byte-sum c = (front c).0 ∙ ap length (sym (front c).1)
+slice_bounds-byte_sum-end : tie.Need-slice_bounds-byte_sum-end
+slice_bounds-byte_sum-end c = (front c).0 ∙ ap length (sym (front c).1)
 
 -- a head, and its trailer piece by piece
 trailed : (t u v w r : Text) (h : List ℕ) (n : ℕ) → u ≡ puts t h → n ≡ check_sum h → v ≡ puts u (bytes_of "10=") → w ≡ puts v (fixed 3 n) → r ≡ puts w (bytes_of "|") → r ≡ puts t (h ++ trailer_of (check_sum h))
@@ -49,34 +48,29 @@ trailed t u v w r h n p e q s k = simp (k, s, q, p, e, puts-puts, append_assoc)
 returns : tie.Need-returns
 unfolding framed
 returns c =
-    let m = c.before.before in
-    let d = m.before.before in
-    let k = d.before.before.before in
-    let h = k.before.before.before.before in
-    trailed (text_with (start h).args.b.now 0)
-    (text_with h.part-at2.new.0 h.part-at2.result)
-    (text_with d.part-at3.new.0 d.part-at3.result)
-    (text_with m.fixed-at.new.0 m.fixed-at.result)
-    (text_with c.put-at.new.0 c.put-at.result)
-    (Head h)
-    k.byte-sum.result
-    (head-is h)
-    (k.byte-sum.ensures ∙ ap check_sum (front k.before).1)
-    d.part-at3.ensures
-    m.fixed-at.ensures
-    c.put-at.ensures
+    trailed (text_with (start c.before.before.before.before.before.before.before.before.before.before.before).args.b.now 0)
+    (text_with c.part_at-end.new.b c.part_at-end.result)
+    (text_with c.part_at-digits.new.b c.part_at-digits.result)
+    (text_with c.fixed_at-mark.new.b c.fixed_at-mark.result)
+    (text_with c.put_at.new.b c.put_at.result)
+    (Head c.before.before.before.before.before.before.before.before.before.before.before)
+    c.byte_sum-total.result
+    (head-is c.before.before.before.before.before.before.before.before.before.before.before)
+    (c.byte_sum-total.ensures ∙ ap check_sum (front c.before.before.before.before.before.before.before.before).1)
+    c.part_at-digits.ensures
+    c.fixed_at-mark.ensures
+    c.put_at.ensures
 
-pub frame-spec : {M : Type 1} → statement M
-frame-spec =
+pub frame_spec : {M : Type 1} → statement M
+frame_spec =
     tie.close
     (tie.spec
     (λ c κs. search rules)
     (λ c. search rules)
     (λ c κs. search rules)
     (λ c κs. search rules)
-    slice-aggregate-byte-sum
+    slice_bounds-byte_sum-end
     (λ c κs. search rules)
-    (λ c. search rules)
     (λ c κs. search rules)
     (λ c. search rules)
     (λ c κs. search rules)

@@ -24,18 +24,15 @@ laid t a named b d placed = simp (layout-append, puts-puts, append_assoc)
 
 returns : tie.Need-returns
 returns c =
-    let r = c.before.before in
-    let n = r.before.before.before.before.before.before in
-    let start = n.before.before.before in
-    let f = start.args.fault in (
-      c.with-place.ensures
-          ∙ rw (r.number-at2.ensures, r.before.before.field_at.ensures, r.before.before.before.before.with-named.ensures, n.number_at.ensures)
-          (laid _ (45 is decimal start.args.n) (named f.tag) (372 is take 3 start.args.word.now) (373 is decimal f.reason) (placed f)),
-      sized start,
+    let f = c.args.fault in (
+      c.with_place.ensures
+          ∙ rw (c.number_at-place.ensures, c.field_at-end.ensures, c.with_named-typed.ensures, c.number_at-named.ensures)
+          (laid _ (45 is decimal c.args.n) (named f.tag) (372 is take 3 c.args.word.now) (373 is decimal f.reason) (placed f)),
+      sized c.before.before.before.before.before.before.before.before.before.before.before,
     )
 
-pub with-fault-spec : {M : Type 1} → statement M
-with-fault-spec =
+pub with_fault_spec : {M : Type 1} → statement M
+with_fault_spec =
     tie.close
     (tie.spec
     (λ c κs. search rules)

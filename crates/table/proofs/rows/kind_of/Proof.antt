@@ -8,56 +8,56 @@ use Rattle.table.proofs.Types.{kind-ucc, kind-long, kind-one, kind-none}
 use Rattle.table.proofs.rows.kind_of.Statement.{statement}
 use Rattle.table.proofs.rows.kind_of.Tie as tie
 
-returns : tie.Need-returns
-returns c = sym (kind-ucc c.before.before.before.before.args.setup _ (sym c.before.same.ensures ∙ c.if1.true))
+returns-then-same : tie.Need-returns-then-same
+returns-then-same c = sym (kind-ucc c.args.setup _ (sym c.same.ensures ∙ c.if-same.true))
 
-returns-2 : tie.Need-returns-2
-returns-2 c = sym (kind-long c.before.before.before.before.before.args.setup _ (sym c.before.before.same.ensures ∙ c.before.if1.false) c.if2.true)
+returns-then-t-ne1 : tie.Need-returns-then-t-ne1
+returns-then-t-ne1 c = sym (kind-long c.args.setup _ (sym c.same.ensures ∙ c.if-same.false) c.if-t-ne1.true)
 
 -- one byte
-one : (c : tie.After-shared-slice-known2) → let a = c.before.before.before.before.before.before.args in kind_of a.setup a.t.now ≡ kind_of a.setup (get_or a.t.now 0 0 ∷ [])
-one c = let a = c.before.before.before.before.before.before.args in kind-one a.setup a.t.now c.before.if2.false
+one : (c : tie.After-shared_slice_known-2-1) → let a = c.args in kind_of a.setup a.t.now ≡ kind_of a.setup (get_or a.t.now 0 0 ∷ [])
+one c = let a = c.args in kind-one a.setup a.t.now c.if-t-ne1.false
 
-returns-3 : tie.Need-returns-3
+returns-in-65 : tie.Need-returns-in-65
 unfolding kind_of
-returns-3 c = rw (one c.before, c.match.keys1)
+returns-in-65 c = rw (one c.before, c.in-65.keys1)
 
-returns-4 : tie.Need-returns-4
+returns-in-48 : tie.Need-returns-in-48
 unfolding kind_of
-returns-4 c = rw (one c.before, c.match.keys2)
+returns-in-48 c = rw (one c.before, c.in-48.keys2)
 
-returns-5 : tie.Need-returns-5
+returns-in-49 : tie.Need-returns-in-49
 unfolding kind_of
-returns-5 c = rw (one c.before, c.match.keys3)
+returns-in-49 c = rw (one c.before, c.in-49.keys3)
 
-returns-6 : tie.Need-returns-6
+returns-in-50 : tie.Need-returns-in-50
 unfolding kind_of
-returns-6 c = rw (one c.before, c.match.keys4)
+returns-in-50 c = rw (one c.before, c.in-50.keys4)
 
-returns-7 : tie.Need-returns-7
+returns-in-52 : tie.Need-returns-in-52
 unfolding kind_of
-returns-7 c = rw (one c.before, c.match.keys5)
+returns-in-52 c = rw (one c.before, c.in-52.keys5)
 
-returns-8 : tie.Need-returns-8
+returns-in-53 : tie.Need-returns-in-53
 unfolding kind_of
-returns-8 c = rw (one c.before, c.match.keys6)
+returns-in-53 c = rw (one c.before, c.in-53.keys6)
 
-returns-9 : tie.Need-returns-9
+returns-in-56 : tie.Need-returns-in-56
 unfolding kind_of
-returns-9 c = rw (one c.before, c.match.keys7)
+returns-in-56 c = rw (one c.before, c.in-56.keys7)
 
-returns-10 : tie.Need-returns-10
+returns-in-51 : tie.Need-returns-in-51
 unfolding kind_of
-returns-10 c = rw (one c.before, c.match.keys8)
+returns-in-51 c = rw (one c.before, c.in-51.keys8)
 
-returns-11 : tie.Need-returns-11
+returns-in-106 : tie.Need-returns-in-106
 unfolding kind_of
-returns-11 c = rw (one c.before, c.match.keys9)
+returns-in-106 c = rw (one c.before, c.in-106.keys9)
 
-returns-12 : tie.Need-returns-12
-returns-12 c =
-    let a = c.before.before.before.before.before.before.before.args in
-    let rest = c.match.rest in
+returns-in_default : tie.Need-returns-in_default
+returns-in_default c =
+    let a = c.args in
+    let rest = c.in_default.rest in
     sym
     (one c.before
     ∙ kind-none a.setup (get_or a.t.now 0 0)
@@ -71,22 +71,21 @@ returns-12 c =
     rest.0.1
     rest.1)
 
-pub kind-of-spec : {M : Type 1} → statement M
-kind-of-spec =
+pub kind_of_spec : {M : Type 1} → statement M
+kind_of_spec =
     tie.close
     (tie.spec
-    (λ c. search rules)
     (λ c κs. search rules)
-    returns
-    returns-2
+    returns-then-same
+    returns-then-t-ne1
     (λ c. search rules)
-    returns-3
-    returns-4
-    returns-5
-    returns-6
-    returns-7
-    returns-8
-    returns-9
-    returns-10
-    returns-11
-    returns-12)
+    returns-in-65
+    returns-in-48
+    returns-in-49
+    returns-in-50
+    returns-in-52
+    returns-in-53
+    returns-in-56
+    returns-in-51
+    returns-in-106
+    returns-in_default)

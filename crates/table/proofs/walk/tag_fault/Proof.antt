@@ -9,68 +9,66 @@ use Rattle.table.proofs.walk.tag_fault.Statement.{statement}
 use Rattle.table.proofs.walk.tag_fault.Tie as tie
 
 -- how often the tag stands, by its column
-counts : (n : tie.After-count-in) → let a = n.before.before.args in n.count-in.result ≡ (look_in a.body.now a.index.now).count a.tag
+counts : (n : tie.After-count_in-n) → let a = n.args in n.count_in-n.result ≡ (look_in a.body.now a.index.now).count a.tag
 unfolding look_in
-counts n = n.count-in.ensures ∙ ap (count_in n.before.before.args.index.now) n.before.before.requires
+counts n = n.count_in-n.ensures ∙ ap (count_in n.args.index.now) n.requires
 
-returns : tie.Need-returns
-returns c =
-    let a = c.before.before.before.before.before.args in
-    c.faulty.ensures ∙ sym (tag-missing a.given _ a.tag a.needed a.form (sym (counts c.before.before.before) ∙ c.before.before.if1.true) ∙ cond-true _ _ _ c.before.if2.true)
+returns-then-needed : tie.Need-returns-then-needed
+returns-then-needed c =
+    let a = c.args in
+    c.faulty.ensures ∙ sym (tag-missing a.given _ a.tag a.needed a.form (sym (counts c.before.before.before) ∙ c.if-n-eq0.true) ∙ cond-true _ _ _ c.if-needed.true)
 
-returns-2 : tie.Need-returns-2
-returns-2 c =
-    let a = c.before.before.before.before.args in
-    sym (tag-missing a.given _ a.tag a.needed a.form (sym (counts c.before.before) ∙ c.before.if1.true) ∙ cond-false _ _ _ c.if2.false)
+returns-then-n-eq0 : tie.Need-returns-then-n-eq0
+returns-then-n-eq0 c =
+    let a = c.args in
+    sym (tag-missing a.given _ a.tag a.needed a.form (sym (counts c.before.before) ∙ c.if-n-eq0.true) ∙ cond-false _ _ _ c.if-needed.false)
 
-returns-3 : tie.Need-returns-3
-returns-3 c =
-    let a = c.before.before.before.before.before.args in
+returns-then-n-ne1 : tie.Need-returns-then-n-ne1
+returns-then-n-ne1 c =
+    let a = c.args in
     let n = counts c.before.before.before in
-    c.faulty2.ensures ∙ sym (tag-twice a.given _ a.tag a.needed a.form (λ e. c.before.before.if1.false (n ∙ e)) (λ e. c.before.if3.true (n ∙ e)))
+    c.faulty-then-n-ne1.ensures ∙ sym (tag-twice a.given _ a.tag a.needed a.form (λ e. c.if-n-eq0.false (n ∙ e)) (λ e. c.if-n-ne1.true (n ∙ e)))
 
 -- and its value
-value : (q : tie.After-check-value) → let a = q.before.before.before.before.before.before.args in
-    q.before.value_in.result.now ≡ (look_in a.body.now a.index.now).text a.tag
+value : (q : tie.After-check_value) → let a = q.args in
+    q.value_in.result.now ≡ (look_in a.body.now a.index.now).text a.tag
 unfolding look_in
 value q =
-    let t = q.before.before.before.before.before.before in
-    q.before.value_in.ensures ∙ ap (text_in t.args.body.now t.args.index.now) t.requires
+    q.value_in.ensures ∙ ap (text_in q.args.body.now q.args.index.now) q.requires
 
 -- a tag that stands once is judged by its value
-judged : (q : tie.After-check-value) → let a = q.before.before.before.before.before.before.args in
-    tag_fault a.given (look_in a.body.now a.index.now) a.tag a.needed a.form ≡ check_fault a.tag q.check-value.result
+judged : (q : tie.After-check_value) → let a = q.args in
+    tag_fault a.given (look_in a.body.now a.index.now) a.tag a.needed a.form ≡ check_fault a.tag q.check_value.result
 judged q =
-    let a = q.before.before.before.before.before.before.args in
-    let n = q.before.before.before.before in
-    tag-once a.given _ a.tag a.needed a.form (sym (counts n) ∙ q.before.before.if3.false)
-    ∙ rw (← value q, ← q.check-value.ensures)
+    let a = q.args in
+    tag-once a.given _ a.tag a.needed a.form (sym (counts q.before.before.before.before) ∙ q.if-n-ne1.false)
+    ∙ rw (← value q, ← q.check_value.ensures)
 
-returns-4 : tie.Need-returns-4
-returns-4 c = sym (judged c.before.before ∙ ap (check_fault _) c.enum_told.given.1)
+returns-in-Good : tie.Need-returns-in-Good
+returns-in-Good c = sym (judged c.before.before ∙ ap (check_fault _) c.enum_told-1.given.1)
 
-returns-5 : tie.Need-returns-5
-returns-5 c = sym (judged c.before.before.before ∙ ap (check_fault _) c.before.at.given.1)
+returns-in-BadForm : tie.Need-returns-in-BadForm
+returns-in-BadForm c = sym (judged c.before.before.before ∙ ap (check_fault _) c.at-1.given.1)
 
-returns-6 : tie.Need-returns-6
-returns-6 c = c.faulty3.ensures ∙ sym (judged c.before.before.before ∙ ap (check_fault _) c.before.enum-told2.given.1)
+returns-in-OutOfRange : tie.Need-returns-in-OutOfRange
+returns-in-OutOfRange c = c.faulty-in-OutOfRange.ensures ∙ sym (judged c.before.before.before ∙ ap (check_fault _) c.enum_told-in-OutOfRange-1.given.1)
 
-pub tag-fault-spec : {M : Type 1} → statement M
-tag-fault-spec =
+pub tag_fault_spec : {M : Type 1} → statement M
+tag_fault_spec =
     tie.close
     (tie.spec
     (λ c κs. search rules)
     (λ c κs. search rules)
-    returns
-    returns-2
+    returns-then-needed
+    returns-then-n-eq0
     (λ c κs. search rules)
-    returns-3
+    returns-then-n-ne1
     (λ c κs. search rules)
     (λ c κs. search rules)
     (λ c. search rules)
     (λ c. search rules)
     (λ c. search rules)
     (λ c κs. search rules)
-    returns-4
-    returns-5
-    returns-6)
+    returns-in-Good
+    returns-in-BadForm
+    returns-in-OutOfRange)

@@ -13,75 +13,65 @@ use Rattle.table.proofs.Walks.{few, here-inside, here-column, walk_here, walk_en
 use Rattle.table.proofs.walk.walk.Statement.{statement}
 use Rattle.table.proofs.walk.walk.Tie as tie
 
-abbrev invariant-loop : tie.invariant-loop
-invariant-loop setup given kind body index i₀ i =
+abbrev invariant-loop-row : tie.invariant-loop-row
+invariant-loop-row setup given kind body index i₀ i =
     (i ≤ length (table_of setup kind)) × (walk given (look_in body index) (table_of setup kind) ≡ walk given (look_in body index) (drop i (table_of setup kind)))
 
-abbrev decreases-loop : tie.decreases-loop
-decreases-loop setup given kind body index i₀ i = length (table_of setup kind) - i
+abbrev decreases-loop-row : tie.decreases-loop-row
+decreases-loop-row setup given kind body index i₀ i = length (table_of setup kind) - i
 
-loop-holds : tie.Need-loop-init invariant-loop decreases-loop
-loop-holds c = (omega arith, refl)
+loop-row-init : tie.Need-loop-row-init invariant-loop-row decreases-loop-row
+loop-row-init c = (omega arith, refl)
 
-returns : tie.Need-returns invariant-loop decreases-loop
-returns c =
-    let q = c.before.before in
-    let l = q.before in
-    sym (l.loop.invariant.1 ∙ walk_end (table_of l.before.before.args.setup l.before.before.args.kind) l.loop.i _ _ (sym q.row_at.ensures ∙ c.enum_told.given.1))
+returns-in_default : tie.Need-returns-in_default invariant-loop-row decreases-loop-row
+returns-in_default c = sym (c.loop-row.invariant.1 ∙ walk_end (table_of c.args.setup c.args.kind) c.loop-row.i _ _ (sym c.row_at-cell.ensures ∙ c.enum_told-1.given.1))
 
 -- it stands beside its tag's column
-row-fault-requires : tie.Need-row-fault-requires invariant-loop decreases-loop
-row-fault-requires c κs =
-    let l = c.before.before.before.before in
-    here-column (table_of l.before.before.args.setup l.before.before.args.kind) l.loop.i (sym c.before.before.before.row_at.ensures ∙ c.before.cell.given.1)
+row_fault-here-requires : tie.Need-row_fault-here-requires invariant-loop-row decreases-loop-row
+row_fault-here-requires c κs = here-column (table_of c.args.setup c.args.kind) c.loop-row.i (sym c.row_at-cell.ensures ∙ c.cell-1.given.1)
 
 -- a row is there
-here : (q : tie.After-row-fault invariant-loop decreases-loop) → let l = q.before.before.before.before.before in
-    cell_of (table_of l.before.before.args.setup l.before.before.args.kind) l.loop.i ≡ Here q.before.before.cell.given.0.0 q.before.before.cell.given.0.1.0
-here q = sym q.before.before.before.before.row_at.ensures ∙ q.before.before.cell.given.1
+here : (q : tie.After-row_fault-here invariant-loop-row decreases-loop-row) → cell_of (table_of q.args.setup q.args.kind) q.loop-row.i ≡ Here q.cell-1.given.0.0 q.cell-1.given.0.1.0
+here q = sym q.row_at-cell.ensures ∙ q.cell-1.given.1
 
-inside : (q : tie.After-row-fault invariant-loop decreases-loop) → let l = q.before.before.before.before.before in
-    l.loop.i < length (table_of l.before.before.args.setup l.before.before.args.kind)
-inside q = let l = q.before.before.before.before.before in here-inside (table_of l.before.before.args.setup l.before.before.args.kind) l.loop.i (here q)
+inside : (q : tie.After-row_fault-here invariant-loop-row decreases-loop-row) → q.loop-row.i < length (table_of q.args.setup q.args.kind)
+inside q = here-inside (table_of q.args.setup q.args.kind) q.loop-row.i (here q)
 
 -- the walk is its fault, or else the walk of the rows after it
-stepped : (q : tie.After-row-fault invariant-loop decreases-loop) → let l = q.before.before.before.before.before in let a = l.before.before.args in
+stepped : (q : tie.After-row_fault-here invariant-loop-row decreases-loop-row) → let a = q.args in
     let look = look_in a.body.now a.index.now in
-    walk a.given look (table_of a.setup a.kind) ≡ or_else (found q.row-fault.result) (walk a.given look (drop (l.loop.i + 1) (table_of a.setup a.kind)))
+    walk a.given look (table_of a.setup a.kind) ≡ or_else (found q.row_fault-here.result) (walk a.given look (drop (q.loop-row.i + 1) (table_of a.setup a.kind)))
 stepped q =
-    let l = q.before.before.before.before.before in
-    let a = l.before.before.args in
-    l.loop.invariant.1 ∙ walk_here (table_of a.setup a.kind) l.loop.i _ _ (here q) ∙ rw (← q.row-fault.ensures)
+    let a = q.args in
+    q.loop-row.invariant.1 ∙ walk_here (table_of a.setup a.kind) q.loop-row.i _ _ (here q) ∙ rw (← q.row_fault-here.ensures)
 
-returns-2 : tie.Need-returns-2 invariant-loop decreases-loop
-returns-2 c = let q = c.before.before.before in rw (stepped q, c.before.here.given.1)
+returns-in-Faulty : tie.Need-returns-in-Faulty invariant-loop-row decreases-loop-row
+returns-in-Faulty c = rw (stepped c.before.before.before, c.here-1.given.1)
 
-add-i : tie.Need-overflow-add-i invariant-loop decreases-loop
-add-i c =
-    let q = c.before.before in
-    omega (arith, few q.before.before.before.before.before.before.before.args.kind, inside q)
+overflow_add-i : tie.Need-overflow_add-i invariant-loop-row decreases-loop-row
+overflow_add-i c = omega (arith, few c.args.kind, inside c.before.before)
 
-loop-less : tie.Need-loop-smaller invariant-loop decreases-loop
-loop-less c = omega (arith, inside c.before.before)
+loop-row-smaller : tie.Need-loop-row-smaller invariant-loop-row decreases-loop-row
+loop-row-smaller c = omega (arith, inside c.before.before)
 
-loop-again : tie.Need-loop-preserved invariant-loop decreases-loop
-loop-again c = let q = c.before.before in (omega (arith, inside q), stepped q ∙ rw c.enum-told2.given.1)
+loop-row-preserved : tie.Need-loop-row-preserved invariant-loop-row decreases-loop-row
+loop-row-preserved c = (omega (arith, inside c.before.before), stepped c.before.before ∙ rw c.enum_told-in_default-here-1.given.1)
 
-pub walk-spec : {M : Type 1} → statement M
-walk-spec =
+pub walk_spec : {M : Type 1} → statement M
+walk_spec =
     tie.close
     (tie.spec
-    invariant-loop
-    decreases-loop
-    loop-holds
+    invariant-loop-row
+    decreases-loop-row
+    loop-row-init
     (λ c κs. search rules)
     (λ c. search rules)
     (λ c. search rules)
-    returns
-    row-fault-requires
+    returns-in_default
+    row_fault-here-requires
     (λ c. search rules)
-    returns-2
+    returns-in-Faulty
     (λ c. search rules)
-    add-i
-    loop-less
-    loop-again)
+    overflow_add-i
+    loop-row-smaller
+    loop-row-preserved)
