@@ -1,6 +1,7 @@
 // The day's slots and order rows, in memory that the caller lends whole, with their counts by value: what becomes of a fill or an
 // entry among them, and one slot more.
 #![tactic(auto)]
+
 mod entries; // an entry among the day's
 mod rows; // the order rows: an order found, and its sums brought up to date
 

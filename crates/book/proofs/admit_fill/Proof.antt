@@ -15,42 +15,40 @@ use Rattle.book.proofs.admit_fill.Statement.{statement}
 use Rattle.book.proofs.admit_fill.Tie as tie
 
 -- the newest with its ExecID, as its bytes
-twin : (c : tie.After-slot-at) → (let a = c.before.before.before.args in some_slot c.slot_at.result.now ≡ find_last (same_exec a.slot.now) (slots_in a.last a.book.now))
-twin c = ap some_slot c.slot_at.ensures ∙ c.before.look.ensures.0
+twin : (c : tie.After-slot_at-twin) → (let a = c.args in some_slot c.slot_at-twin.result.now ≡ find_last (same_exec a.slot.now) (slots_in a.last a.book.now))
+twin c = ap some_slot c.slot_at-twin.ensures ∙ c.look-seen.ensures.0
 
-admit-new-requires : tie.Need-admit-new-requires
-admit-new-requires c κs = (c.before.before.before.before.requires, sym (twin c.before) ∙ known-none c.before.slot_at.result.now c.if1.true, c.before.before.look.ensures.1)
+admit_new-requires : tie.Need-admit_new-requires
+admit_new-requires c κs = (c.requires, sym (twin c.before) ∙ known-none c.slot_at-twin.result.now c.if-twin-eq0.true, c.look-seen.ensures.1)
 
-returns-2 : tie.Need-returns-2
-returns-2 c =
-    let start = c.before.before.before.before.before.before in
-    let a = start.args in
-    let k = c.before.before.before.slot_at.result.now in
+returns-then-same_contents : tie.Need-returns-then-same_contents
+returns-then-same_contents c =
+    let a = c.args in
+    let k = c.slot_at-twin.result.now in
     let rows = rows_in a.load.orders a.book.now in
     let ss = slots_in a.last a.book.now in
-    let there = sym (twin c.before.before.before) ∙ known_some k c.before.before.if1.false in
-    sym (admit-already ss rows a.load a.slot.now (placed-already ss rows a.slot.now start.requires k there (sym c.before.same-contents.ensures ∙ c.if2.true)))
+    let there = sym (twin c.before.before.before) ∙ known_some k c.if-twin-eq0.false in
+    sym (admit-already ss rows a.load a.slot.now (placed-already ss rows a.slot.now c.requires k there (sym c.same_contents.ensures ∙ c.if-same_contents.true)))
 
-returns-3 : tie.Need-returns-3
-returns-3 c =
-    let start = c.before.before.before.before.before.before.before in
-    let a = start.args in
-    let k = c.before.before.before.before.slot_at.result.now in
+returns : tie.Need-returns
+returns c =
+    let a = c.args in
+    let k = c.slot_at-twin.result.now in
     let rows = rows_in a.load.orders a.book.now in
     let ss = slots_in a.last a.book.now in
-    let there = sym (twin c.before.before.before.before) ∙ known_some k c.before.before.before.if1.false in
+    let there = sym (twin c.before.before.before.before) ∙ known_some k c.if-twin-eq0.false in
     ap admitted.Clash c.of.ensures
-    ∙ sym (admit-clash ss rows a.load a.slot.now (placed-clash ss rows a.slot.now start.requires k there (sym c.before.before.same-contents.ensures ∙ c.before.if2.false)))
+    ∙ sym (admit-clash ss rows a.load a.slot.now (placed-clash ss rows a.slot.now c.requires k there (sym c.same_contents.ensures ∙ c.if-same_contents.false)))
 
-pub admit-fill-spec : {M : Type 1} → statement M
-admit-fill-spec =
+pub admit_fill_spec : {M : Type 1} → statement M
+admit_fill_spec =
     tie.close
     (tie.spec
     (λ c κs. search rules)
     (λ c κs. search rules)
-    admit-new-requires
+    admit_new-requires
     (λ c. search rules)
     (λ c κs. search rules)
-    returns-2
+    returns-then-same_contents
     (λ c κs. search rules)
-    returns-3)
+    returns)

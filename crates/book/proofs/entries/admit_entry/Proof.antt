@@ -14,54 +14,47 @@ use Rattle.book.proofs.entries.admit_entry.Statement.{statement}
 use Rattle.book.proofs.entries.admit_entry.Tie as tie
 
 -- where it stands among the day's, from what was found
-placed : (c : tie.After-by-key) → (let a = c.before.before.before.before.args in c.by_key.result ≡ place (slots_in a.last a.book.now) (rows_in a.load.orders a.book.now) a.slot.now)
+placed : (c : tie.After-by_key) → (let a = c.args in c.by_key.result ≡ place (slots_in a.last a.book.now) (rows_in a.load.orders a.book.now) a.slot.now)
 placed c =
-    let start = c.before.before.before.before in
-    let a = start.args in
-    entry-placed a.slot.now start.requires (slots_in a.last a.book.now) (rows_in a.load.orders a.book.now) c.before.slot_at.result.now _
-    (ap some_slot c.before.slot_at.ensures ∙ c.before.before.look-for.ensures) c.by_key.ensures
+    let a = c.args in
+    entry-placed a.slot.now c.requires (slots_in a.last a.book.now) (rows_in a.load.orders a.book.now) c.slot_at-twin.result.now _
+    (ap some_slot c.slot_at-twin.ensures ∙ c.look_for.ensures) c.by_key.ensures
 
 -- no room
-returns : tie.Need-returns
-returns c =
-    let by = c.before.before.before.before in
-    let start = by.before.before.before.before in
-    let a = start.args in
+returns-then-not-has_room : tie.Need-returns-then-not-has_room
+returns-then-not-has_room c =
+    let a = c.args in
     let e = a.slot.now in
-    let room = sym (entry-room e start.requires a.last a.book.now (rows_in a.load.orders a.book.now) a.load) ∙ sym c.before.has_room.ensures ∙ not-true _ c.if1.true in
-    sym (admit-full (slots_in a.last a.book.now) (rows_in a.load.orders a.book.now) a.load e (sym (placed by) ∙ c.before.before.enum-told2.given.1) room)
+    let room = sym (entry-room e c.requires a.last a.book.now (rows_in a.load.orders a.book.now) a.load) ∙ sym c.has_room.ensures ∙ c.if-not-has_room.true in
+    sym (admit-full (slots_in a.last a.book.now) (rows_in a.load.orders a.book.now) a.load e (sym (placed c.before.before.before) ∙ c.in-New.is) room)
 
-with-entry-requires : tie.Need-with-entry-requires
-with-entry-requires c κs =
-    let a = c.before.before.before.before.before.before.before.before.args in
-    and_right (ltb a.last most_slots) (entry_room a.load.entries) (sym c.before.has_room.ensures ∙ not-false _ c.if1.false)
+with_entry-requires : tie.Need-with_entry-requires
+with_entry-requires c κs =
+    let a = c.args in
+    and_right (ltb a.last most_slots) (entry_room a.load.entries) (sym c.has_room.ensures ∙ c.if-not-has_room.false)
 
-returns-2 : tie.Need-returns-2
-returns-2 c =
-    let by = c.before.before.before in
-    let a = by.before.before.before.before.args in
-    sym (admit-clash (slots_in a.last a.book.now) (rows_in a.load.orders a.book.now) a.load a.slot.now (sym (placed by) ∙ c.before.f.given.1))
+returns-in-Clash : tie.Need-returns-in-Clash
+returns-in-Clash c =
+    let a = c.args in
+    sym (admit-clash (slots_in a.last a.book.now) (rows_in a.load.orders a.book.now) a.load a.slot.now (sym (placed c.before) ∙ c.in-Clash.is))
 
-returns-3 : tie.Need-returns-3
-returns-3 c =
-    let by = c.before.before in
-    let a = by.before.before.before.before.args in
-    sym (admit-already (slots_in a.last a.book.now) (rows_in a.load.orders a.book.now) a.load a.slot.now (sym (placed by) ∙ c.enum_told.given.1))
+returns-in-Already : tie.Need-returns-in-Already
+returns-in-Already c =
+    let a = c.args in
+    sym (admit-already (slots_in a.last a.book.now) (rows_in a.load.orders a.book.now) a.load a.slot.now (sym (placed c.before) ∙ c.in-Already.is))
 
 -- new, with its booking
-returns-4 : tie.Need-returns-4
-returns-4 c =
-    let by = c.before.before.before.before.before in
-    let start = by.before.before.before.before in
-    let a = start.args in
+returns-else-not-has_room : tie.Need-returns-else-not-has_room
+returns-else-not-has_room c =
+    let a = c.args in
     let e = a.slot.now in
     let ss = slots_in a.last a.book.now in
-    let room = sym (entry-room e start.requires a.last a.book.now (rows_in a.load.orders a.book.now) a.load) ∙ sym c.before.before.has_room.ensures ∙ not-false _ c.before.if1.false in
-    ap admitted.New (entry-booking e start.requires ss (rows_in a.load.orders a.book.now) a.load c.with-entry.result c.with-entry.ensures)
-    ∙ sym (admit-new ss (rows_in a.load.orders a.book.now) a.load e (sym (placed by) ∙ c.before.before.before.enum-told2.given.1) room)
+    let room = sym (entry-room e c.requires a.last a.book.now (rows_in a.load.orders a.book.now) a.load) ∙ sym c.has_room.ensures ∙ c.if-not-has_room.false in
+    ap admitted.New (entry-booking e c.requires ss (rows_in a.load.orders a.book.now) a.load c.with_entry.result c.with_entry.ensures)
+    ∙ sym (admit-new ss (rows_in a.load.orders a.book.now) a.load e (sym (placed c.before.before.before.before) ∙ c.in-New.is) room)
 
-pub admit-entry-spec : {M : Type 1} → statement M
-admit-entry-spec =
+pub admit_entry_spec : {M : Type 1} → statement M
+admit_entry_spec =
     tie.close
     (tie.spec
     (λ c κs. search rules)
@@ -71,8 +64,8 @@ admit-entry-spec =
     (λ c. search rules)
     (λ c. search rules)
     (λ c κs. search rules)
-    returns
-    with-entry-requires
-    returns-2
-    returns-3
-    returns-4)
+    returns-then-not-has_room
+    with_entry-requires
+    returns-in-Clash
+    returns-in-Already
+    returns-else-not-has_room)

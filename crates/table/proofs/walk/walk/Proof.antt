@@ -46,16 +46,16 @@ stepped q =
     q.loop-row.invariant.1 ∙ walk_here (table_of a.setup a.kind) q.loop-row.i _ _ (here q) ∙ rw (← q.row_fault-here.ensures)
 
 returns-in-Faulty : tie.Need-returns-in-Faulty invariant-loop-row decreases-loop-row
-returns-in-Faulty c = rw (stepped c.before.before.before, c.here-1.given.1)
+returns-in-Faulty c = rw (stepped c.before, c.here-1.given.1)
 
 overflow_add-i : tie.Need-overflow_add-i invariant-loop-row decreases-loop-row
-overflow_add-i c = omega (arith, few c.args.kind, inside c.before.before)
+overflow_add-i c = omega (arith, few c.args.kind, inside c.before)
 
 loop-row-smaller : tie.Need-loop-row-smaller invariant-loop-row decreases-loop-row
-loop-row-smaller c = omega (arith, inside c.before.before)
+loop-row-smaller c = omega (arith, inside c.before)
 
 loop-row-preserved : tie.Need-loop-row-preserved invariant-loop-row decreases-loop-row
-loop-row-preserved c = (omega (arith, inside c.before.before), stepped c.before.before ∙ rw c.enum_told-in_default-here-1.given.1)
+loop-row-preserved c = (omega (arith, inside c.before), stepped c.before ∙ rw c.enum_told-in_default-here-1.given.1)
 
 pub walk_spec : {M : Type 1} → statement M
 walk_spec =
