@@ -23,20 +23,20 @@ start c = c.before.before.before.before.before.before.before.before
 abbrev Head : tie.After-part_at-end → List ℕ
 Head c = headed (start c).args.opening.now (start c).args.body.now
 
-full : (c : tie.After-byte-sum-arg) → length c.part-at2.new.0 ≡ room
+full : (c : tie.After-head-2-1) → length c.part_at-end.new.b ≡ room
 full c = search rules
 
 short : (c : tie.After-part_at-end) → length (Head c) ≤ 408
-short c = let s = start c in omega (arith, headed-length s.args.opening.now s.args.body.now (omega (arith, s.pre)), s.pre)
+short c = let s = start c in omega (arith, headed-length s.args.opening.now s.args.body.now (omega (arith, s.requires)), s.requires)
 
 head-is : (c : tie.After-part_at-end) → text_with c.part_at-end.new.b c.part_at-end.result ≡ puts (text_with (start c).args.b.now 0) (Head c)
 unfolding headed
 head-is c =
     simp (c.part_at-end.ensures, c.number_at-start.ensures, c.part_at-length.ensures, take-length, puts-puts, append_assoc)
 
-front : (c : tie.After-byte-sum-arg)
-    → ((c.part-at2.result ≡ length (Head h)) × (take c.part-at2.result c.part-at2.new.0 ≡ Head h))
-front c = put_front (start h).args.b.now c.part-at2.new.0 c.part-at2.result (Head h) (full c) (omega (arith, short h)) (head-is h)
+front : (c : tie.After-head-2-1)
+    → ((c.part_at-end.result ≡ length (Head c.before.before)) × (take c.part_at-end.result c.part_at-end.new.b ≡ Head c.before.before))
+front c = put_front (start c.before.before).args.b.now c.part_at-end.new.b c.part_at-end.result (Head c.before.before) (full c) (omega (arith, short c.before.before)) (head-is c.before.before)
 
 slice_bounds-byte_sum-end : tie.Need-slice_bounds-byte_sum-end
 slice_bounds-byte_sum-end c = (front c).0 ∙ ap length (sym (front c).1)
@@ -56,7 +56,7 @@ returns c =
     (Head c.before.before.before.before.before.before.before.before.before.before.before)
     c.byte_sum-total.result
     (head-is c.before.before.before.before.before.before.before.before.before.before.before)
-    (c.byte_sum-total.ensures ∙ ap check_sum (front c.before.before.before.before.before.before.before.before).1)
+    (c.byte_sum-total.ensures ∙ ap check_sum (front c.before.before.before.before.before.before.before.before.before).1)
     c.part_at-digits.ensures
     c.fixed_at-mark.ensures
     c.put_at.ensures
@@ -71,8 +71,8 @@ frame_spec =
     (λ c κs. search rules)
     slice_bounds-byte_sum-end
     (λ c κs. search rules)
-    (λ c κs. search rules)
     (λ c. search rules)
-    (λ c κs. search rules)
+    (λ c. search rules)
+    (λ c. search rules)
     (λ c κs. search rules)
     returns)

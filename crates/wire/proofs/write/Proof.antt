@@ -64,15 +64,15 @@ body c = front c.with_others-n.new.b c.with_others-n.result (Body c) (omega (ari
 slice_bounds-body-end : tie.Need-slice_bounds-body-end
 slice_bounds-body-end c = omega (arith, (body c.before.before.before).0, (body c.before.before.before).1, short c.before.before.before)
 
-slice-aggregate-frame-2 : tie.Need-slice-aggregate-frame-2
-slice-aggregate-frame-2 c = (body w).1 ∙ ap length (sym (body w).2)
+slice_bounds-frame-end-2 : tie.Need-slice_bounds-frame-end-2
+slice_bounds-frame-end-2 c = (body c.before.before.before.before).1 ∙ ap length (sym (body c.before.before.before.before).2)
 
 frame-end-requires : tie.Need-frame-end-requires
 frame-end-requires c κs = rw (body c.before.before.before.before).2 (omega (arith, short c.before.before.before.before))
 
 -- the message, whole
 abbrev written : tie.After-frame-end → tie.After-with_others-n
-written c = c.before.before.before.before
+written c = c.before.before.before.before.before
 
 abbrev Message : tie.After-frame-end → List ℕ
 Message c = framed opening (Body (written c))
@@ -97,19 +97,19 @@ abbrev framed_at : tie.After-copy_into → tie.After-frame-end
 framed_at c = c.before.before.before
 
 abbrev begun : tie.After-copy_into → tie.Start
-begun c = start (written (framed_at c))
+begun c = c.before.before.before.before.before.before.before.before.before.before.before.before.before.before.before.before.before
 
 fits : (c : tie.After-copy_into) → c.copy_into.result ≡ fits_at (begun c).args.reply.now (begun c).args.at (Message (framed_at c))
 fits c = c.copy_into.ensures.0 ∙ ap (fits_at (begun c).args.reply.now (begun c).args.at) (message (framed_at c)).2
 
-sent : (c : tie.After-copy_into) (r : ℕ) → r ≡ cond c.copy_into.result ((begun c).args.at + (framed_at c).frame.result) (begun c).args.at
+sent : (c : tie.After-copy_into) (r : ℕ) → r ≡ cond c.copy_into.result ((begun c).args.at + (framed_at c).frame-end.result) (begun c).args.at
     → Sent (begun c).args.reply.now c.copy_into.new.dst (begun c).args.at r (Message (framed_at c))
 sent c r e =
     let f = framed_at c in
     let a = (begun c).args in
     record {
       bytes = c.copy_into.ensures.1 ∙ ap (splice a.reply.now a.at) (message f).2;
-      end = e ∙ ap (λ (b : Bool). cond b (a.at + f.frame.result) a.at) (fits c) ∙ ap (λ (n : ℕ). cond (fits_at a.reply.now a.at (Message f)) (a.at + n) a.at) (message f).1;
+      end = e ∙ ap (λ (b : Bool). cond b (a.at + f.frame-end.result) a.at) (fits c) ∙ ap (λ (n : ℕ). cond (fits_at a.reply.now a.at (Message f)) (a.at + n) a.at) (message f).1;
       short = omega (arith, brief f);
     }
 
@@ -135,7 +135,7 @@ write_spec =
     (λ c κs. search rules)
     (λ c κs. search rules)
     slice_bounds-body-end
-    (λ c. search rules)
+    slice_bounds-frame-end-2
     frame-end-requires
     slice_bounds-message-end
     slice_bounds-copy_into-end

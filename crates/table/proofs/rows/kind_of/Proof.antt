@@ -20,44 +20,44 @@ one c = let a = c.args in kind-one a.setup a.t.now c.if-t-ne1.false
 
 returns-in-65 : tie.Need-returns-in-65
 unfolding kind_of
-returns-in-65 c = rw (one c.before, c.in-65.keys1)
+returns-in-65 c = rw (one c.before, c.in-65.is)
 
 returns-in-48 : tie.Need-returns-in-48
 unfolding kind_of
-returns-in-48 c = rw (one c.before, c.in-48.keys2)
+returns-in-48 c = rw (one c.before, c.in-48.is)
 
 returns-in-49 : tie.Need-returns-in-49
 unfolding kind_of
-returns-in-49 c = rw (one c.before, c.in-49.keys3)
+returns-in-49 c = rw (one c.before, c.in-49.is)
 
 returns-in-50 : tie.Need-returns-in-50
 unfolding kind_of
-returns-in-50 c = rw (one c.before, c.in-50.keys4)
+returns-in-50 c = rw (one c.before, c.in-50.is)
 
 returns-in-52 : tie.Need-returns-in-52
 unfolding kind_of
-returns-in-52 c = rw (one c.before, c.in-52.keys5)
+returns-in-52 c = rw (one c.before, c.in-52.is)
 
 returns-in-53 : tie.Need-returns-in-53
 unfolding kind_of
-returns-in-53 c = rw (one c.before, c.in-53.keys6)
+returns-in-53 c = rw (one c.before, c.in-53.is)
 
 returns-in-56 : tie.Need-returns-in-56
 unfolding kind_of
-returns-in-56 c = rw (one c.before, c.in-56.keys7)
+returns-in-56 c = rw (one c.before, c.in-56.is)
 
 returns-in-51 : tie.Need-returns-in-51
 unfolding kind_of
-returns-in-51 c = rw (one c.before, c.in-51.keys8)
+returns-in-51 c = rw (one c.before, c.in-51.is)
 
 returns-in-106 : tie.Need-returns-in-106
 unfolding kind_of
-returns-in-106 c = rw (one c.before, c.in-106.keys9)
+returns-in-106 c = rw (one c.before, c.in-106.is)
 
 returns-in_default : tie.Need-returns-in_default
 returns-in_default c =
     let a = c.args in
-    let rest = c.in_default.rest in
+    let rest = c.in_default.in_default-own.rest in
     sym
     (one c.before
     ∙ kind-none a.setup (get_or a.t.now 0 0)

@@ -45,13 +45,13 @@ judged q =
     ∙ rw (← value q, ← q.check_value.ensures)
 
 returns-in-Good : tie.Need-returns-in-Good
-returns-in-Good c = sym (judged c.before ∙ ap (check_fault _) c.enum_told-1.given.1)
+returns-in-Good c = sym (judged c.before ∙ ap (check_fault _) c.in-Good.is)
 
 returns-in-BadForm : tie.Need-returns-in-BadForm
-returns-in-BadForm c = sym (judged c.before ∙ ap (check_fault _) c.at-1.given.1)
+returns-in-BadForm c = sym (judged c.before ∙ ap (check_fault _) c.in-BadForm.is)
 
 returns-in-OutOfRange : tie.Need-returns-in-OutOfRange
-returns-in-OutOfRange c = c.faulty-in-OutOfRange.ensures ∙ sym (judged c.before.before ∙ ap (check_fault _) c.enum_told-in-OutOfRange-1.given.1)
+returns-in-OutOfRange c = c.faulty-in-OutOfRange.ensures ∙ sym (judged c.before.before ∙ ap (check_fault _) c.in-OutOfRange.is)
 
 pub tag_fault_spec : {M : Type 1} → statement M
 tag_fault_spec =

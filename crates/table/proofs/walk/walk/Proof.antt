@@ -24,15 +24,15 @@ loop-row-init : tie.Need-loop-row-init invariant-loop-row decreases-loop-row
 loop-row-init c = (omega arith, refl)
 
 returns-in_default : tie.Need-returns-in_default invariant-loop-row decreases-loop-row
-returns-in_default c = sym (c.loop-row.invariant.1 ∙ walk_end (table_of c.args.setup c.args.kind) c.loop-row.i _ _ (sym c.row_at-cell.ensures ∙ c.enum_told-1.given.1))
+returns-in_default c = sym (c.loop-row.invariant.1 ∙ walk_end (table_of c.args.setup c.args.kind) c.loop-row.i _ _ (sym c.row_at-cell.ensures ∙ c.in_default.is))
 
 -- it stands beside its tag's column
 row_fault-here-requires : tie.Need-row_fault-here-requires invariant-loop-row decreases-loop-row
-row_fault-here-requires c κs = here-column (table_of c.args.setup c.args.kind) c.loop-row.i (sym c.row_at-cell.ensures ∙ c.cell-1.given.1)
+row_fault-here-requires c κs = here-column (table_of c.args.setup c.args.kind) c.loop-row.i (sym c.row_at-cell.ensures ∙ c.in-Here.is)
 
 -- a row is there
-here : (q : tie.After-row_fault-here invariant-loop-row decreases-loop-row) → cell_of (table_of q.args.setup q.args.kind) q.loop-row.i ≡ Here q.cell-1.given.0.0 q.cell-1.given.0.1.0
-here q = sym q.row_at-cell.ensures ∙ q.cell-1.given.1
+here : (q : tie.After-row_fault-here invariant-loop-row decreases-loop-row) → cell_of (table_of q.args.setup q.args.kind) q.loop-row.i ≡ Here q.in-Here.row q.in-Here.column
+here q = sym q.row_at-cell.ensures ∙ q.in-Here.is
 
 inside : (q : tie.After-row_fault-here invariant-loop-row decreases-loop-row) → q.loop-row.i < length (table_of q.args.setup q.args.kind)
 inside q = here-inside (table_of q.args.setup q.args.kind) q.loop-row.i (here q)
@@ -46,7 +46,7 @@ stepped q =
     q.loop-row.invariant.1 ∙ walk_here (table_of a.setup a.kind) q.loop-row.i _ _ (here q) ∙ rw (← q.row_fault-here.ensures)
 
 returns-in-Faulty : tie.Need-returns-in-Faulty invariant-loop-row decreases-loop-row
-returns-in-Faulty c = rw (stepped c.before, c.here-1.given.1)
+returns-in-Faulty c = rw (stepped c.before, c.in-Faulty.is)
 
 overflow_add-i : tie.Need-overflow_add-i invariant-loop-row decreases-loop-row
 overflow_add-i c = omega (arith, few c.args.kind, inside c.before)
@@ -55,7 +55,7 @@ loop-row-smaller : tie.Need-loop-row-smaller invariant-loop-row decreases-loop-r
 loop-row-smaller c = omega (arith, inside c.before)
 
 loop-row-preserved : tie.Need-loop-row-preserved invariant-loop-row decreases-loop-row
-loop-row-preserved c = (omega (arith, inside c.before), stepped c.before ∙ rw c.enum_told-in_default-here-1.given.1)
+loop-row-preserved c = (omega (arith, inside c.before), stepped c.before ∙ rw c.in_default-here.is)
 
 pub walk_spec : {M : Type 1} → statement M
 walk_spec =
