@@ -1,5 +1,6 @@
 // An execution report that passed the table: its values, the four rules, and the slot of its fill; and the slot of the entry that a Trade Cancel/Correct tells of.
 #![tactic(auto)]
+
 ghost use Rattle.std.specs.Prelude.{◌≡◌, ◌%◌};
 ghost use Rattle.std.proofs.Math.Option.{some};
 ghost use Rattle.value.specs.Value.{price_in};

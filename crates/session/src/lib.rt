@@ -1,5 +1,6 @@
 // The session: phase, E and O by value, our own calls, and the judging of a framed message in the paper's order. It knows no book.
 #![tactic(auto)]
+
 mod judging;
 mod own_calls;
 mod reading;

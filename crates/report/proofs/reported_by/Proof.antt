@@ -8,31 +8,26 @@ use Rattle.report.specs.Report.{report_of, rule_fault, reported_of}
 use Rattle.report.proofs.reported_by.Statement.{statement}
 use Rattle.report.proofs.reported_by.Tie as tie
 
-ruled : (c : tie.After-rule-fault) → let a = c.before.before.before.before.args in
-    rule_fault (report_of (look_in a.body.now a.index.now)) ≡ found c.rule-fault.result
+ruled : (c : tie.After-rule_fault) → let a = c.args in
+    rule_fault (report_of (look_in a.body.now a.index.now)) ≡ found c.rule_fault.result
 unfolding report_of
 ruled c =
-    let kind = c.before.before in
-    rw (← kind.before.before.requires, ← kind.value-at.ensures, ← c.before.value-at2.ensures) (sym c.rule-fault.ensures)
+    rw (← c.requires, ← c.value_at-kind.ensures, ← c.value_at-status.ensures) (sym c.rule_fault.ensures)
 
-returns : tie.Need-returns
+returns-then-count_at-ne0 : tie.Need-returns-then-count_at-ne0
 unfolding reported_of
-returns c =
-    let told = c.before.before in
-    rw (ruled told.before.before, told.enum_told.given.1, ← c.before.count_at.ensures, ne_eqb _ 0 c.if1.true)
+returns-then-count_at-ne0 c = rw (ruled c.before.before.before, c.in-Fine.is, ← c.count_at.ensures, ne_eqb _ 0 c.if-count_at-ne0.true)
 
-returns-2 : tie.Need-returns-2
+returns-in-Faulty : tie.Need-returns-in-Faulty
 unfolding reported_of
-returns-2 c = rw (ruled c.before.before.before, c.before.fault.given.1)
+returns-in-Faulty c = rw (ruled c.before, c.in-Faulty.is)
 
-returns-3 : tie.Need-returns-3
+returns-else-count_at-ne0 : tie.Need-returns-else-count_at-ne0
 unfolding reported_of
-returns-3 c =
-    let told = c.before.before in
-    rw (ruled told.before.before, told.enum_told.given.1, ← c.before.count_at.ensures, eq-eqb _ 0 c.if1.false)
+returns-else-count_at-ne0 c = rw (ruled c.before.before.before, c.in-Fine.is, ← c.count_at.ensures, eq-eqb _ 0 c.if-count_at-ne0.false)
 
-pub reported-by-spec : {M : Type 1} → statement M
-reported-by-spec =
+pub reported_by_spec : {M : Type 1} → statement M
+reported_by_spec =
     tie.close
     (tie.spec
     (λ c κs. search rules)
@@ -41,6 +36,6 @@ reported-by-spec =
     (λ c. search rules)
     (λ c. search rules)
     (λ c κs. search rules)
-    returns
-    returns-2
-    returns-3)
+    returns-then-count_at-ne0
+    returns-in-Faulty
+    returns-else-count_at-ne0)

@@ -8,35 +8,31 @@ use Rattle.answer.specs.Setup.{ours, theirs}
 use Rattle.session.proofs.reading.ids_fault.Statement.{statement}
 use Rattle.session.proofs.reading.ids_fault.Tie as tie
 
-sender : (c : tie.After-has-id) → let a = c.before.before.before.args in c.has-id.result ≡ is_that (theirs a.setup) (first (look_in a.body.now a.index.now) 49)
-sender c = rw (← c.before.theirs.ensures) c.has-id.ensures
+sender : (c : tie.After-has_id) → let a = c.args in c.has_id.result ≡ is_that (theirs a.setup) (first (look_in a.body.now a.index.now) 49)
+sender c = rw (← c.theirs.ensures) c.has_id.ensures
 
-target : (c : tie.After-has-id2) → let a = c.before.before.before.before.before.before.args in c.has-id2.result ≡ is_that (ours a.setup) (first (look_in a.body.now a.index.now) 56)
-target c = rw (← c.before.ours.ensures) c.has-id2.ensures
+target : (c : tie.After-has_id-2) → let a = c.args in c.has_id-2.result ≡ is_that (ours a.setup) (first (look_in a.body.now a.index.now) 56)
+target c = rw (← c.ours.ensures) c.has_id-2.ensures
+
+returns-then-not-has_id : tie.Need-returns-then-not-has_id
+returns-then-not-has_id c = rw (← sender c.before.before, c.if-not-has_id.true) c.wrong_id.ensures
+
+returns-then-not-has_id-2 : tie.Need-returns-then-not-has_id-2
+returns-then-not-has_id-2 c = rw (← sender c.before.before.before.before.before, c.if-not-has_id.false, ← target c.before.before, c.if-not-has_id-2.true) c.wrong_id-then-not-has_id-2.ensures
 
 returns : tie.Need-returns
-returns c = rw (← sender c.before.before, not-true c.before.before.has-id.result c.before.if1.true) c.wrong-id.ensures
+returns c = rw (← sender c.before.before.before.before, c.if-not-has_id.false, ← target c.before, c.if-not-has_id-2.false)
 
-returns-2 : tie.Need-returns-2
-returns-2 c =
-    let q = c.before.before.before.before in
-    rw (← sender q.before, not-false q.before.has-id.result q.if1.false, ← target c.before.before, not-true c.before.before.has-id2.result c.before.if2.true) c.wrong-id2.ensures
-
-returns-3 : tie.Need-returns-3
-returns-3 c =
-    let q = c.before.before.before in
-    rw (← sender q.before, not-false q.before.has-id.result q.if1.false, ← target c.before, not-false c.before.has-id2.result c.if2.false)
-
-pub ids-fault-spec : {M : Type 1} → statement M
-ids-fault-spec =
+pub ids_fault_spec : {M : Type 1} → statement M
+ids_fault_spec =
     tie.close
     (tie.spec
     (λ c κs. search rules)
     (λ c κs. search rules)
     (λ c κs. search rules)
-    returns
+    returns-then-not-has_id
     (λ c κs. search rules)
     (λ c κs. search rules)
     (λ c κs. search rules)
-    returns-2
-    returns-3)
+    returns-then-not-has_id-2
+    returns)
