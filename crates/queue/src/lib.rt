@@ -1,6 +1,7 @@
 // The queue to the ledger host: offer, begin-again, acknowledge, new day. Marks by value, the fills, entries and order rows in the lent book,
 // under the numbers of one queue.
 #![tactic(auto)]
+
 ghost use Rattle.std.specs.Prelude.{◌≡◌};
 ghost use Rattle.book.specs.Memory.{TakesOff};
 ghost use Rattle.queue.specs.Queue.{no_marks, marks_again, one_more, offered_up_to, acked_up_to, Offers, begun_again, Acknowledges, new_day};

@@ -1,6 +1,7 @@
 // A restart: from the notes to what they keep, or to the place of the first unlawful one. "A restart reads whole notes, drops a
 // part at the end, and says how many bytes are whole."
 #![tactic(auto)]
+
 ghost use Rattle.std.specs.Prelude.{◌≡◌, ◌+◌, ◌≤◌, length};
 ghost use Rattle.book.specs.Memory.{book_width};
 ghost use Rattle.note.specs.Notes.{Raises, Books, Acks, Clears, read_note, told as said};

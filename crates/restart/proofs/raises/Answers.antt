@@ -6,19 +6,14 @@ use native.Mathlib.Omega.{arith}
 use lib.Dec.{ltb}
 use borrow.Author.Tests.{lt-ltb, le-ltb}
 use Rattle.octet.proofs.Cases.{or_left}
-use Rattle.restart.specs.Restart.{restart}
-use Rattle.restart.proofs.raises.Statement.{statement}
-use Rattle.restart.proofs.raises.Tie as tie
+use Rattle.restart.proofs.raises.Goals as goal
 
-returns : tie.Need-returns
-returns c =
-    let a = c.before.before.args in
+pub returns-then-m-e : goal.returns-then-m-e
+returns-then-m-e c =
+    let a = c.args in
     sym (or_left (ltb a.m.e a.e) (ltb a.m.o a.o) (lt-ltb a.m.e a.e (omega arith)))
 
-returns-2 : tie.Need-returns-2
-returns-2 c =
-    let a = c.before.before.before.args in
+pub returns : goal.returns
+returns c =
+    let a = c.args in
     sym (ap (λ (x : Bool). x || ltb a.m.o a.o) (le-ltb a.m.e a.e (omega arith)))
-
-pub raises-spec : {M : Type 1} → statement M
-raises-spec = tie.close (tie.spec returns returns-2)

@@ -1,0 +1,17 @@
+-- `queue::Marks::new_day` meets its contract. The lent book is not touched.
+use mathlib.Core.Path.{refl, ap, ◌∙◌}
+use Rattle.queue.specs.declared.Day.TheVariants as day
+use Prim.Native.Nat.{◌-◌}
+use native.Mathlib.Omega.{arith}
+use Rattle.queue.proofs.Offering.{day-waiting, day-fresh}
+use Rattle.queue.proofs.Marks.new_day.Goals as goal
+
+pub returns-then-self : goal.returns-then-self
+returns-then-self c =
+    let a = c.args in
+    (day-waiting a.self (omega arith), refl)
+
+pub returns : goal.returns
+returns c =
+    let a = c.args in
+    (ap day.Fresh c.none.ensures ∙ day-fresh a.self (omega arith), refl)
