@@ -8,7 +8,7 @@ use Rattle.book.proofs.Placing.{admitted-clash, admitted-already, admitted-full,
 use Rattle.note.specs.Notes.{Books}
 use Rattle.restart.specs.Steps.{kept_in}
 use Rattle.restart.specs.Restart.{load_in}
-use Rattle.restart.proofs.Stepping.{admits, bookable-by, books-out, books-next, step-no, on-books, mem-no, mem-yes, last-few, load_fits}
+use Rattle.restart.proofs.Stepping.{admits, bookable-by, books-out, books-next, step-no, step-yes, on-books, mem-no, mem-yes, last-few, load_fits}
 use Rattle.restart.proofs.step_books.Goals as goal
 
 -- not the next
@@ -59,7 +59,7 @@ returns-in-Clash c =
     let r = admits a.m m s _ _ _ w c.load_in.ensures c.admit.ensures in
     let f = admitted-clash ss (rows_in a.m.orders m) (load_in a.m) s (r ∙ c.in-Clash.is) in
     let t = books-next a.m m a.e a.o s next (bookable-by ss (rows_in a.m.orders m) (load_in a.m) s good (ap is_new f) refl) in
-    (c {After-is_next} -no (kept_in a.m m) (Books a.e a.o s) t, mem-no m (kept_in a.m m) a.e a.o s t)
+    (step-no (kept_in a.m m) (Books a.e a.o s) t, mem-no m (kept_in a.m m) a.e a.o s t)
 
 -- already booked
 pub returns-in-Already : goal.returns-in-Already
@@ -74,7 +74,7 @@ returns-in-Already c =
     let r = admits a.m m s _ _ _ w c.load_in.ensures c.admit.ensures in
     let f = admitted-already ss (rows_in a.m.orders m) (load_in a.m) s (r ∙ c.in-Already.is) in
     let t = books-next a.m m a.e a.o s next (bookable-by ss (rows_in a.m.orders m) (load_in a.m) s good (ap is_new f) refl) in
-    (c {After-is_next} -no (kept_in a.m m) (Books a.e a.o s) t, mem-no m (kept_in a.m m) a.e a.o s t)
+    (step-no (kept_in a.m m) (Books a.e a.o s) t, mem-no m (kept_in a.m m) a.e a.o s t)
 
 -- no room
 pub returns-in-Full : goal.returns-in-Full
@@ -89,7 +89,7 @@ returns-in-Full c =
     let r = admits a.m m s _ _ _ w c.load_in.ensures c.admit.ensures in
     let f = admitted-full ss (rows_in a.m.orders m) (load_in a.m) s (r ∙ c.in-Full.is) in
     let t = books-next a.m m a.e a.o s next (bookable-by ss (rows_in a.m.orders m) (load_in a.m) s good (ap is_new f.0) f.1) in
-    (c {After-is_next} -no (kept_in a.m m) (Books a.e a.o s) t, mem-no m (kept_in a.m m) a.e a.o s t)
+    (step-no (kept_in a.m m) (Books a.e a.o s) t, mem-no m (kept_in a.m m) a.e a.o s t)
 
 -- new
 pub returns-in-New : goal.returns-in-New
@@ -106,6 +106,6 @@ returns-in-New c =
     let t = books-next a.m m a.e a.o s next (bookable-by ss (rows_in a.m.orders m) (load_in a.m) s good (ap is_new b.0) b.1) in
     let given = c.well_formed.1.0 in
     let load = ap (λ (k : Booking). k.load) b.2 ∙ load_fits a.m m a.e a.o s t (omega (arith, given)) (omega (arith, given)) (omega (arith, given)) in (
-      c {After-is_next} -yes (kept_in a.m m) (Books a.e a.o s) _ t (on-books a.m m a.e a.o _ _ s load c.day_with.ensures),
+      step-yes (kept_in a.m m) (Books a.e a.o s) _ t (on-books a.m m a.e a.o _ _ s load c.day_with.ensures),
       mem-yes a.m m a.e a.o s t _ _ _ _ w c.wide.ensures.0 (ap (λ (k : Booking). k.row) b.2) c.enter.ensures,
     )
