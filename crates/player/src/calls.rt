@@ -1,5 +1,5 @@
 // A call, handed to the receiver.
-ghost use Rattle.io.specs.Counts.{IsPrefixLen};
+ghost use Rattle.std.specs.Prelude.{◌≡◌, ◌≤◌, length, take};
 ghost use Rattle.receiver.specs.Steps.{Messaged};
 
 use super::script::{Ask, Ledger};
@@ -76,7 +76,7 @@ fn beside(told: Told, tally: Tally) -> Came {
 
 // How much of a buffer is lent.
 fn lent_of(size: usize, buffer: &[u8]) -> usize
-    ensures { IsPrefixLen result buffer.now }
+    ensures { (result ≤ length buffer.now) × (result ≡ length (take result buffer.now)) }
 {
     if size < buffer.len() {
         return size;

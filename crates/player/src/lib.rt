@@ -1,6 +1,7 @@
 // The replay program: reads a script of calls on standard input, runs it against one receiver, and writes the transcript, a line for each line; or
 // says on standard error why it cannot. docs/REPLAY.md has the language.
 #![tactic(auto)]
+
 mod code; // bytes, decoded and encoded
 mod script; // a line of the script, read
 mod transcript; // what is written of a call
@@ -22,7 +23,7 @@ const JOURNAL: usize = 131072;
 const LENT: usize = 4096;
 
 // The sizes of the buffers that are lent.
-#[derive(Drop)]
+#[derive(Clone, Copy)]
 struct Sizes {
     reply: usize,
     note: usize,
@@ -31,7 +32,7 @@ struct Sizes {
 
 // One receiver and what its caller keeps: the tally, how many bytes of the journal are notes, and what is lent. Before the first `ids` that is
 // not refused there is no receiver. `written` says whether the last line of the transcript could be: where not, nobody hears of what is run next.
-#[derive(Drop)]
+#[derive(Clone, Copy)]
 struct World {
     begun: bool,
     setup: Setup,
@@ -43,7 +44,7 @@ struct World {
 }
 
 // What came back of a call, and the tally after it.
-#[derive(Drop)]
+#[derive(Clone, Copy)]
 struct Came {
     told: Told,
     tally: Tally,
@@ -59,10 +60,18 @@ fn plus(a: usize, b: usize) -> usize {
 }
 
 // All memory that a script works in stands here.
-pub fn play_input() {
+pub fn play_input(rt: &(impl Input + Print + Eprint)) {
     let mut line = [0u8; LINE];
     let mut bytes = [0u8; LINE];
     let mut journal = [0u8; JOURNAL];
     let mut book = [0u8; BOOK];
-    reading::run(&mut line, &mut bytes, &mut journal, &mut book);
+    let mut input = rt.reader();
+    reading::run(
+        rt,
+        &mut input,
+        &mut line,
+        &mut bytes,
+        &mut journal,
+        &mut book,
+    );
 }

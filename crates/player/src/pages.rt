@@ -21,7 +21,7 @@ const FILLED: u8 = 238;
 const FILLED_FOUR: u32 = 4_008_636_142;
 
 // What came back of a page: its answer, and our rows after it.
-#[derive(Drop)]
+#[derive(Clone, Copy)]
 struct PageCame {
     answer: Paged,
     rows: [OrderRow; ROWS],
@@ -132,22 +132,22 @@ fn put_rows(out: &mut [u8], at: usize, rows: [OrderRow; ROWS], n: usize) -> usiz
 }
 
 // Writes the line of a page, and answers whether that could be written.
-fn show_page(w: World, came: PageCame) -> bool {
+fn show_page(rt: &impl Print, w: World, came: PageCame) -> bool {
     let mut out = [0u8; SHOWN];
     let answer = came.answer;
     let rows = came.rows;
     let n = rows_of(answer);
     let called = put_call(&mut out, say_page(answer), w.state, w.tally, b"", b"", b"");
     let end = put_rows(&mut out, called, rows, n);
-    put_end(&mut out, end, !is_kept(rows, n))
+    put_end(rt, &mut out, end, !is_kept(rows, n))
 }
 
 // Asks for the page with n rows lent. It changes neither the state nor the journal.
-pub(crate) fn ask_page(w: World, n: usize, book: &[u8; BOOK]) -> World {
+pub(crate) fn ask_page(rt: &impl Print, w: World, n: usize, book: &[u8; BOOK]) -> World {
     let state = w.state;
     let marks = state.marks;
     let rows = [filled_row(); ROWS];
     let came = page_call(marks, book, rows, lent_rows(n));
-    let written = show_page(w, came);
+    let written = show_page(rt, w, came);
     w.after(w.state, w.tally, w.journal, written)
 }

@@ -3,15 +3,18 @@ use super::running::{fresh_world, run_line, what};
 use super::script::read_line;
 use super::{LINE, World, plus};
 use book::BOOK;
-use libc::{STDERR_FILENO, STDIN_FILENO};
+use std::io::Read;
 
 // Where the reading stands: how many bytes of a line have come, and whether there may be more.
-#[derive(Drop)]
+#[derive(Clone, Copy)]
 struct Reading {
     world: World,
     len: usize,
     more: bool,
 }
+
+// The most bytes that one read brings.
+const PIECE: usize = 65536;
 
 // The length of a line that is too long.
 const TOO_LONG: usize = LINE + 1;
@@ -26,6 +29,7 @@ fn lengthen(line: &mut [u8], len: usize, s: &[u8]) -> usize {
 
 // A line that has come whole.
 fn take_line(
+    rt: &impl Print,
     w: World,
     line: &[u8],
     len: usize,
@@ -34,15 +38,15 @@ fn take_line(
     book: &mut [u8; BOOK],
 ) -> World {
     if LINE < len {
-        return what(w);
+        return what(rt, w);
     }
     let read = read_line(octet::part(line, 0, len), bytes);
-    run_line(w, read, bytes, journal, book)
+    run_line(rt, w, read, bytes, journal, book)
 }
 
 // What went wrong, on standard error. Where that cannot be written either, there is nobody to tell.
-fn complain(why: &[u8]) {
-    io::write_all(STDERR_FILENO, why);
+fn complain(rt: &impl Eprint, why: &str) {
+    let _ = rt.eprint(why);
 }
 
 // There is no more to read.
@@ -55,19 +59,20 @@ fn ended(world: World) -> Reading {
 }
 
 // A read failed: what came before it has been run, and a line that has not come whole is none.
-fn unread(world: World) -> Reading {
-    complain(b"replay: the script could not be read\n");
+fn unread(rt: &impl Eprint, world: World) -> Reading {
+    complain(rt, "replay: the script could not be read\n");
     ended(world)
 }
 
 // A write failed: nobody would hear of what is run after it.
-fn unwritten(world: World) -> Reading {
-    complain(b"replay: the transcript could not be written\n");
+fn unwritten(rt: &impl Eprint, world: World) -> Reading {
+    complain(rt, "replay: the transcript could not be written\n");
     ended(world)
 }
 
 // Runs the lines that a piece of the script ends.
 fn take_piece(
+    rt: &(impl Print + Eprint),
     r: Reading,
     piece: &[u8],
     line: &mut [u8],
@@ -89,9 +94,9 @@ fn take_piece(
             };
         }
         let next = at + n + 1;
-        world = take_line(world, line, len, bytes, journal, book);
+        world = take_line(rt, world, line, len, bytes, journal, book);
         if !world.written {
-            return unwritten(world);
+            return unwritten(rt, world);
         }
         len = 0;
         at = next;
@@ -104,39 +109,42 @@ fn take_piece(
 }
 
 // Reads once, and runs the lines that have come whole.
-fn read_once(
+fn read_once<I: Read>(
+    rt: &(impl Print + Eprint),
+    input: &mut I,
     r: Reading,
     line: &mut [u8],
     bytes: &mut [u8],
     journal: &mut [u8],
     book: &mut [u8; BOOK],
 ) -> Reading {
-    let mut piece = io::large_buffer();
-    let got = libc::read(STDIN_FILENO, &mut piece);
-    if got < 0 {
-        return unread(r.world);
+    let mut piece = [0u8; PIECE];
+    match input.read(&mut piece) {
+        Err(_) => unread(rt, r.world),
+        Ok(0) => ended(r.world),
+        Ok(n) => take_piece(rt, r, octet::part(&piece, 0, n), line, bytes, journal, book),
     }
-    let n = io::count(got, &piece);
-    if n == 0 {
-        return ended(r.world);
-    }
-    take_piece(r, octet::part(&piece, 0, n), line, bytes, journal, book)
 }
 
-// A proved loop has to end, and nothing says that a script does: the turns are counted down from a number that no run uses up.
-pub(crate) fn run(line: &mut [u8], bytes: &mut [u8], journal: &mut [u8], book: &mut [u8; BOOK]) {
+// A proved loop has to end, and nothing says that a script does: the turns are counted, up to a number that no run uses up.
+pub(crate) fn run<I: Read>(
+    rt: &(impl Print + Eprint),
+    input: &mut I,
+    line: &mut [u8],
+    bytes: &mut [u8],
+    journal: &mut [u8],
+    book: &mut [u8; BOOK],
+) {
     let none = receiver::set_up(b"", b"");
     let mut r = Reading {
         world: fresh_world(false, none.setup),
         len: 0,
         more: true,
     };
-    let mut turns = u64::MAX;
-    while turns > 0 {
-        r = read_once(r, line, bytes, journal, book);
+    for _ in 0..u64::MAX {
+        r = read_once(rt, input, r, line, bytes, journal, book);
         if !r.more {
             return;
         }
-        turns -= 1;
     }
 }

@@ -15,8 +15,8 @@ const FILLED: u8 = 238;
 
 impl World {
     // A line that is no call, or that changes nothing.
-    fn answer(self, answer: Text) -> World {
-        let written = show(answer, self.state, self.tally, b"", b"", b"", false);
+    fn answer(self, rt: &impl Print, answer: Text) -> World {
+        let written = show(rt, answer, self.state, self.tally, b"", b"", b"", false);
         self.after(self.state, self.tally, self.journal, written)
     }
 
@@ -70,18 +70,18 @@ pub(crate) fn fresh_world(begun: bool, setup: Setup) -> World {
 }
 
 // The answer to a line that is not in the language.
-pub(crate) fn what(w: World) -> World {
-    w.answer(text_of(b"what"))
+pub(crate) fn what(rt: &impl Print, w: World) -> World {
+    w.answer(rt, text_of(b"what"))
 }
 
 // `ids`: where it is not refused, everything begins anew.
-fn set_up(w: World, ours: &[u8], theirs: &[u8]) -> World {
+fn set_up(rt: &impl Print, w: World, ours: &[u8], theirs: &[u8]) -> World {
     let made = receiver::set_up(ours, theirs);
     let setup = made.setup;
     let leave = made.leave;
     match leave {
-        Leave::Granted => fresh_world(true, setup).answer(text_of(b"ok")),
-        Leave::Refused(why) => w.answer(words::say_refusal(Text::new(), why)),
+        Leave::Granted => fresh_world(true, setup).answer(rt, text_of(b"ok")),
+        Leave::Refused(why) => w.answer(rt, words::say_refusal(Text::new(), why)),
     }
 }
 
@@ -127,7 +127,14 @@ fn is_kept(told: Told, reply: &[u8], note: &[u8], listed: &[u8]) -> bool {
 }
 
 // Shows what came back of a call, and answers whether that could be written.
-fn show_call(told: Told, tally: Tally, reply: &[u8], note: &[u8], listed: &[u8]) -> bool {
+fn show_call(
+    rt: &impl Print,
+    told: Told,
+    tally: Tally,
+    reply: &[u8],
+    note: &[u8],
+    listed: &[u8],
+) -> bool {
     let spoiled = !is_kept(told, reply, note, listed);
     let replied = octet::part(reply, 0, told.reply);
     let noted = octet::part(note, 0, told.note);
@@ -135,6 +142,7 @@ fn show_call(told: Told, tally: Tally, reply: &[u8], note: &[u8], listed: &[u8])
     let answer = told.answer;
     let state = told.state;
     show(
+        rt,
         words::say_answer(Text::new(), answer),
         state,
         tally,
@@ -148,6 +156,7 @@ fn show_call(told: Told, tally: Tally, reply: &[u8], note: &[u8], listed: &[u8])
 // Keeps what came back of a call, and shows it. A note that the journal does not hold is as a line that is not in the language: the state before
 // the call stands, and a slot that was written past its fills is none of them.
 fn finish(
+    rt: &impl Print,
     w: World,
     came: Came,
     bytes: &[u8],
@@ -163,20 +172,27 @@ fn finish(
     let noted = octet::part(note, 0, told.note);
     match keep(journal, w.journal, answer, bytes, noted) {
         Kept::To(n) => {
-            let written = show_call(told, tally, reply, note, listed);
+            let written = show_call(rt, told, tally, reply, note, listed);
             w.after(state, tally, n, written)
         }
-        Kept::Full => what(w),
+        Kept::Full => what(rt, w),
     }
 }
 
 // Makes a call with buffers that are filled anew.
-fn call(w: World, ask: Ask, bytes: &[u8], journal: &mut [u8], book: &mut [u8; BOOK]) -> World {
+fn call(
+    rt: &impl Print,
+    w: World,
+    ask: Ask,
+    bytes: &[u8],
+    journal: &mut [u8],
+    book: &mut [u8; BOOK],
+) -> World {
     let mut reply = [FILLED; LENT];
     let mut note = [FILLED; LENT];
     let mut listed = [FILLED; LENT];
     let came = hand(w, ask, bytes, book, &mut reply, &mut note, &mut listed);
-    finish(w, came, bytes, journal, &reply, &note, &listed)
+    finish(rt, w, came, bytes, journal, &reply, &note, &listed)
 }
 
 // The smaller of the two.
@@ -185,10 +201,24 @@ fn least(a: usize, b: usize) -> usize {
 }
 
 // A restart with the first n bytes of the journal, or all of it.
-fn cut(w: World, n: usize, bytes: &mut [u8], journal: &mut [u8], book: &mut [u8; BOOK]) -> World {
+fn cut(
+    rt: &impl Print,
+    w: World,
+    n: usize,
+    bytes: &mut [u8],
+    journal: &mut [u8],
+    book: &mut [u8; BOOK],
+) -> World {
     let end = least(n, w.journal);
     octet::copy_into(bytes, 0, octet::part(journal, 0, end));
-    call(w, Ask::Ledger(Ledger::Restart(end)), bytes, journal, book)
+    call(
+        rt,
+        w,
+        Ask::Ledger(Ledger::Restart(end)),
+        bytes,
+        journal,
+        book,
+    )
 }
 
 // ---- a line
@@ -210,6 +240,7 @@ fn admitted(begun: bool, line: Line) -> Line {
 
 // Runs a line that was read, and answers it.
 pub(crate) fn run_line(
+    rt: &impl Print,
     w: World,
     line: Line,
     bytes: &mut [u8],
@@ -217,11 +248,16 @@ pub(crate) fn run_line(
     book: &mut [u8; BOOK],
 ) -> World {
     match admitted(w.begun, line) {
-        Line::What => what(w),
-        Line::Ids(middle, end) => set_up(w, between(bytes, 0, middle), between(bytes, middle, end)),
-        Line::Lend(sizes) => w.lending(sizes).answer(text_of(b"ok")),
-        Line::Cut(n) => cut(w, n, bytes, journal, book),
-        Line::Page(n) => ask_page(w, n, book),
-        Line::Call(ask) => call(w, ask, bytes, journal, book),
+        Line::What => what(rt, w),
+        Line::Ids(middle, end) => set_up(
+            rt,
+            w,
+            between(bytes, 0, middle),
+            between(bytes, middle, end),
+        ),
+        Line::Lend(sizes) => w.lending(sizes).answer(rt, text_of(b"ok")),
+        Line::Cut(n) => cut(rt, w, n, bytes, journal, book),
+        Line::Page(n) => ask_page(rt, w, n, book),
+        Line::Call(ask) => call(rt, w, ask, bytes, journal, book),
     }
 }

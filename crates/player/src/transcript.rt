@@ -1,7 +1,6 @@
 // What is written of a call: a line of the transcript.
 use super::code::encode;
 use book::Load;
-use libc::STDOUT_FILENO;
 use receiver::State;
 use tally::Tally;
 use text::Text;
@@ -83,13 +82,14 @@ pub(crate) fn put_call(
 }
 
 // Ends a line and writes it. It answers whether that could be written.
-pub(crate) fn put_end(out: &mut [u8], at: usize, spoiled: bool) -> bool {
+pub(crate) fn put_end(rt: &impl Print, out: &mut [u8], at: usize, spoiled: bool) -> bool {
     let end = ending(spoiled).place(out, at);
-    io::write_all(STDOUT_FILENO, octet::part(out, 0, end))
+    rt.write_all(octet::part(out, 0, end)).is_ok()
 }
 
 // Writes the line of a call. It answers whether that could be written.
 pub(crate) fn show(
+    rt: &impl Print,
     answer: Text,
     state: State,
     tally: Tally,
@@ -100,5 +100,5 @@ pub(crate) fn show(
 ) -> bool {
     let mut out = [0u8; SHOWN];
     let end = put_call(&mut out, answer, state, tally, reply, note, line);
-    put_end(&mut out, end, spoiled)
+    put_end(rt, &mut out, end, spoiled)
 }
