@@ -1,0 +1,5 @@
+-- `receiver::ledger::awake` meets its contract.
+use Rattle.receiver.proofs.ledger.awake.Goals as goal
+
+pub returns : goal.returns
+returns c = rw (c.again.ensures, c.load_in-load.ensures)
