@@ -1,5 +1,6 @@
 // The listing of a file of notes: the fills that wait with their contracts, and the entries.
 #![tactic(auto)]
+
 ghost use Rattle.std.specs.Prelude.{◌≡◌, cond, ◌+◌, ◌*◌, ◌≤◌, length, drop};
 ghost use Rattle.octet.specs.Splice.{splice};
 ghost use Rattle.answer.specs.Numbers.{largest};

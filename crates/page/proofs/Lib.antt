@@ -1,4 +1,3 @@
 pub mod Shown
 pub mod Upto
-pub mod Lending
 pub mod Unique

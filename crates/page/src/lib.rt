@@ -1,6 +1,7 @@
 // The totals page: the contracts waiting, one row an order, in a slice of rows that the caller lends. They are kept in the book's order
 // rows and in the marks: the page reads them, and adds nothing up.
 #![tactic(auto)]
+
 ghost use Rattle.std.specs.Prelude.{◌≡◌, ◌≤◌};
 ghost use Rattle.book.specs.Place.{most_orders};
 ghost use Rattle.page.specs.Page.{row_of, shown_of, told_of, due_of, Pages};

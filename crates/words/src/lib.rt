@@ -1,5 +1,6 @@
 // What a call answers, in words: a word for each case of an answer, and its values after it, as the transcript of `replay` has them.
 #![tactic(auto)]
+
 ghost use Rattle.std.specs.Prelude.{◌≡◌};
 ghost use Rattle.answer.specs.Numbers.{refusal_values};
 ghost use Rattle.text.specs.Writing.{puts};
