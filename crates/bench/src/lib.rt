@@ -1,6 +1,7 @@
 // What bench/run times, for a program in C to call: the message call of a receiver that is on, an acknowledgement, the totals page, a restart, the listing, and the
 // stages of a message call that can be timed by themselves. The numbers that C is told are enough to see that the work was done.
 #![tactic(auto)]
+
 ghost use Rattle.std.specs.Prelude.{◌≡◌};
 ghost use Rattle.field.specs.Pieces.{pieces_of};
 ghost use Rattle.session.specs.Judging.{judge};

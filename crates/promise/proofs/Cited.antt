@@ -54,58 +54,58 @@ module _ (t : Tally) (book reply note line : List ℕ) where
       → Unlent t (asking setup (Own-call own time) reply₀ note₀ line) (back r t book reply₁ note₁ line) (Own-call own time)
   own-unlent setup own time reply₀ note₀ reply₁ note₁ r = record { reply = λ x. true-not-false x; note = λ x. true-not-false x; line = λ x. refl; tally = λ x. refl }
 
-  pub open-cited : Cites opening.ended (λ M 𝓤. opening.clauses 𝓤) (λ κs a r e.
+  pub open-cited : Cites opening.ended (λ M 𝓤. opening.clauses) (λ κs a r e.
       Promised a.1.0 t book (asking a.0 (Own-call Open a.1.1.0.now) a.1.1.1.0.now a.1.1.1.1.0.now line)
       (back r t book e.1.1.1.0.now e.1.1.1.1.0.now line))
   open-cited M 𝓤 𝓛 mem run κs a g r e = by 𝓤 (λ p. ((p, refl), own-unlent _ _ _ _ _ _ _ _))
 
-  pub heartbeat-cited : Cites heartbeat.ended (λ M 𝓤. heartbeat.clauses 𝓤) (λ κs a r e.
+  pub heartbeat-cited : Cites heartbeat.ended (λ M 𝓤. heartbeat.clauses) (λ κs a r e.
       Promised a.1.0 t book (asking a.0 (Own-call Beat a.1.1.0.now) a.1.1.1.0.now a.1.1.1.1.0.now line)
       (back r t book e.1.1.1.0.now e.1.1.1.1.0.now line))
   heartbeat-cited M 𝓤 𝓛 mem run κs a g r e = by 𝓤 (λ p. ((p, refl), own-unlent _ _ _ _ _ _ _ _))
 
-  pub test-request-cited : Cites test-request.ended (λ M 𝓤. test-request.clauses 𝓤) (λ κs a r e.
+  pub test-request-cited : Cites test-request.ended (λ M 𝓤. test-request.clauses) (λ κs a r e.
       Promised a.1.0 t book (asking a.0 (Own-call Ask a.1.1.0.now) a.1.1.1.0.now a.1.1.1.1.0.now line)
       (back r t book e.1.1.1.0.now e.1.1.1.1.0.now line))
   test-request-cited M 𝓤 𝓛 mem run κs a g r e = by 𝓤 (λ p. ((p, refl), own-unlent _ _ _ _ _ _ _ _))
 
-  pub close-cited : Cites close.ended (λ M 𝓤. close.clauses 𝓤) (λ κs a r e.
+  pub close-cited : Cites close.ended (λ M 𝓤. close.clauses) (λ κs a r e.
       Promised a.1.0 t book (asking a.0 (Own-call Close a.1.1.0.now) a.1.1.1.0.now a.1.1.1.1.0.now line)
       (back r t book e.1.1.1.0.now e.1.1.1.1.0.now line))
   close-cited M 𝓤 𝓛 mem run κs a g r e = by 𝓤 (λ p. ((p, refl), own-unlent _ _ _ _ _ _ _ _))
 
-  pub line-lost-cited : Cites line-lost.ended (λ M 𝓤. line-lost.clauses 𝓤) (λ κs a r e.
+  pub line-lost-cited : Cites line-lost.ended (λ M 𝓤. line-lost.clauses) (λ κs a r e.
       Promised a.1.0 t book (asking a.0 Line-lost reply note line) (back r t book reply note line))
   line-lost-cited M 𝓤 𝓛 mem run κs a g r e = by 𝓤 (λ p. ((p, refl), record { reply = λ x. refl; note = λ x. refl; line = λ x. refl; tally = λ x. refl }))
 
-  pub begin-again-cited : Cites begin-again.ended (λ M 𝓤. begin-again.clauses 𝓤) (λ κs a r e.
+  pub begin-again-cited : Cites begin-again.ended (λ M 𝓤. begin-again.clauses) (λ κs a r e.
       Promised a.1.0 t book (asking a.0 Begin-again reply note line) (back r t book reply note line))
   begin-again-cited M 𝓤 𝓛 mem run κs a g r e = by 𝓤 (λ p. ((p, refl), record { reply = λ x. refl; note = λ x. refl; line = λ x. refl; tally = λ x. refl }))
 
-  pub message-cited : Cites message.ended (λ M 𝓤. message.clauses 𝓤) (λ κs a r e.
+  pub message-cited : Cites message.ended (λ M 𝓤. message.clauses) (λ κs a r e.
       Promised a.1.0 a.1.1.0.now a.1.1.1.1.1.0.now
       (asking a.0 (Message a.1.1.1.0.now a.1.1.1.1.0.now) a.1.1.1.1.1.1.0.now a.1.1.1.1.1.1.1.0.now line)
       (back r e.1.1.0.now e.1.1.1.1.1.0.now e.1.1.1.1.1.1.0.now e.1.1.1.1.1.1.1.0.now line))
   message-cited M 𝓤 𝓛 mem run κs a g r e =
       by 𝓤 (λ p. (p, record { reply = λ x. true-not-false x; note = λ x. true-not-false x; line = λ x. refl; tally = λ x. none-some _ (sym x) }))
 
-  pub offer-cited : Cites offer.ended (λ M 𝓤. offer.clauses 𝓤) (λ κs a r e.
+  pub offer-cited : Cites offer.ended (λ M 𝓤. offer.clauses) (λ κs a r e.
       Promised a.1.0 t a.1.1.0.now (asking a.0 Offer reply note a.1.1.1.0.now) (back r t a.1.1.0.now reply note e.1.1.1.0.now))
   offer-cited M 𝓤 𝓛 mem run κs a g r e =
       by 𝓤 (λ p. ((p, refl), record { reply = λ x. refl; note = λ x. refl; line = λ x. true-not-false x; tally = λ x. refl }))
 
-  pub acknowledge-cited : Cites acknowledge.ended (λ M 𝓤. acknowledge.clauses 𝓤) (λ κs a r e.
+  pub acknowledge-cited : Cites acknowledge.ended (λ M 𝓤. acknowledge.clauses) (λ κs a r e.
       Promised a.1.0 t a.1.1.0.now (asking a.0 (Acknowledge a.1.1.1.0) reply a.1.1.1.1.0.now line)
       (back r t e.1.1.0.now reply e.1.1.1.1.0.now line))
   acknowledge-cited M 𝓤 𝓛 mem run κs a g r e =
       by 𝓤 (λ p. (p, record { reply = λ x. refl; note = λ x. true-not-false x; line = λ x. refl; tally = λ x. refl }))
 
-  pub new-day-cited : Cites new-day.ended (λ M 𝓤. new-day.clauses 𝓤) (λ κs a r e.
+  pub new-day-cited : Cites new-day.ended (λ M 𝓤. new-day.clauses) (λ κs a r e.
       Promised a.1.0 t a.1.1.0.now (asking a.0 New-day reply a.1.1.1.0.now line) (back r t e.1.1.0.now reply e.1.1.1.0.now line))
   new-day-cited M 𝓤 𝓛 mem run κs a g r e =
       by 𝓤 (λ p. (p, record { reply = λ x. refl; note = λ x. true-not-false x; line = λ x. refl; tally = λ x. refl }))
 
-  pub restart-cited : Cites restart-from.ended (λ M 𝓤. restart-from.clauses 𝓤) (λ κs a r e.
+  pub restart-cited : Cites restart-from.ended (λ M 𝓤. restart-from.clauses) (λ κs a r e.
       Promised a.1.0 t a.1.1.0.now (asking a.0 (Restart a.1.1.1.0.now) reply note line) (back r t e.1.1.0.now reply note line))
   restart-cited M 𝓤 𝓛 mem run κs a g r e =
       by 𝓤 (λ p. (p, record { reply = λ x. refl; note = λ x. refl; line = λ x. refl; tally = λ x. refl }))

@@ -180,5 +180,5 @@ page-held ss h x rows rows' r p =
     shows (world ss).live.kept (safe-live (world ss) (good ss)).sound h.struct.marks h.book (reads h (world ss).live (held x).state) rows rows' r p
 
 -- the function's own contract says so: it is lent the book to read and hands back no state, so that it changes nothing but the rows
-pub page-cited : Cites page.ended (λ M 𝓤. page.clauses 𝓤) (λ κs a r e. Pages a.0 a.1.0.now a.1.1.0.now r e.1.1.0.now)
+pub page-cited : Cites page.ended (λ M 𝓤. page.clauses) (λ κs a r e. Pages a.0 a.1.0.now a.1.1.0.now r e.1.1.0.now)
 page-cited M 𝓤 𝓛 mem run κs a g r e = by 𝓤 (λ p. p)

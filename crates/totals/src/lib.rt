@@ -1,5 +1,6 @@
 // The totals by a file of notes, as a text: a line for each order with what waits of it, and the day's sum under them.
 #![tactic(auto)]
+
 ghost use Rattle.std.specs.Prelude.{◌≡◌, ◌*◌, ◌≤◌, length};
 ghost use Rattle.book.specs.Place.{most_orders};
 ghost use Rattle.text.specs.Writing.{empty, puts};

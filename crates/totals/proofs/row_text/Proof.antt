@@ -26,26 +26,25 @@ full c = search rules
 returns : tie.Need-returns
 unfolding row_line
 returns c =
-    let a = c.before.before.before.before.before.before.before.before.before.before.args in
+    let a = c.args in
     let name = text_of a.row.id in
-    let n = c.before.before.before.before.before.before.before.text_of.ensures in
-    let m = c.before.before.before.before.before.before.before.text_of.result.now in
-    let first = c.before.before.before.before.before.part.ensures ∙ ap (λ (l : List ℕ). puts c.before.before.before.before.before.before.new.result l) (take_all (length m) m (le_refl (length m)) ∙ n) in
-    let g = c.before.before.struct_known.given in
-    let three = text-three name (bytes_of " ") (decimal a.row.waiting) c.before.before.before.before.before.before.new.ensures first c.before.before.before.part2.ensures c.before.decimal.ensures in (
+    let n = c.text_of-name.ensures in
+    let m = c.text_of-name.result.now in
+    let first = c.part.ensures ∙ ap (λ (l : List ℕ). puts c.new.result l) (take_all (length m) m (le_refl (length m)) ∙ n) in
+    let g = c.struct_known-1.given in
+    let three = text-three name (bytes_of " ") (decimal a.row.waiting) c.new.ensures first c.part-named.ensures c.decimal.ensures in (
       c.put.ensures ∙ ap (λ (t : Text). puts t line_feed) three ∙ puts-puts empty (name ++ bytes_of " " ++ decimal a.row.waiting) line_feed,
-      row-most a.row (full c.before.before.before.before.before.before.before.before.before.before) (omega arith),
+      row-most a.row (full c.before.before.before.before.before.before.before.before.before.before.before) (omega arith),
     )
 
-pub row-text-spec : {M : Type 1} → statement M
-row-text-spec =
+pub row_text_spec : {M : Type 1} → statement M
+row_text_spec =
     tie.close
     (tie.spec
     (λ c. search rules)
     (λ c κs. search rules)
     (λ c κs. search rules)
     (λ c κs. search rules)
-    (λ c. search rules)
     (λ c κs. search rules)
     (λ c. search rules)
     (λ c κs. search rules)
