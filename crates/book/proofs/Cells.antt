@@ -15,12 +15,12 @@ use Prim.Native.Nat.{ℕ, zero, suc, ◌+◌, ◌-◌, ◌*◌, ◌≤◌, ◌<�
 use native.Mathlib.Nat.{zero-mul, suc-mul, add-mul, one-mul, add_comm, mul-le-mul_right, sub-zero, zero-sub, suc-sub-suc, sub-eq-zero_of_le, le_refl}
 use native.Mathlib.Numerals.{add-one}
 use native.Mathlib.Omega.{arith}
-use lib.ListN.{length, take, drop, get_or, set, length-append, length-drop}
+use lib.ListN.{length, take, drop, get_or, set, length-append}
 use lib.Seq.{take-add, drop-drop, take-take, take_at, drop_at, take_all, take-length, set-append_seam}
 use Rattle.octet.specs.Bytes.{part, joined}
 use Rattle.octet.specs.Splice.{splice}
 use Rattle.octet.proofs.Cases.{le-or-lt}
-use Rattle.octet.proofs.Lists.{drop-take, joined-append, joined-one, splice-read, splice-before, splice-after, splice-length}
+use Rattle.octet.proofs.Lists.{drop-take, splice-read, splice-before, splice-after}
 use Rattle.book.specs.Memory.{cells, cell_at}
 
 module _ (w : ℕ) where

@@ -20,7 +20,7 @@ use Rattle.octet.proofs.Cases.{contrary, le-or-lt, and-no-right, find-here, find
 use Rattle.octet.proofs.Lists.{part-past}
 use Rattle.octet.proofs.Places.{word-differs}
 use Rattle.fill.specs.Slot.{Slot, slot_width, is_fill, exec_of, order_of}
-use Rattle.book.specs.Memory.{most_slots, slots_here, cells, cell_at}
+use Rattle.book.specs.Memory.{most_slots, slots_here, cells}
 use Rattle.book.specs.Place.{same_exec, same_order}
 use Rattle.book.specs.Seeing.{some_slot}
 use Rattle.book.proofs.Cells.{cells-first, cells-next, cells-last, cells-drop}

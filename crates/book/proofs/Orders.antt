@@ -9,12 +9,10 @@ use mathlib.Core.Path.{◌≡◌, refl, sym, ap, ap₂, ◌∙◌}
 use mathlib.Core.List.{List, [], ◌∷◌, ◌++◌}
 use mathlib.Core.Option.{some}
 use mathlib.Core.Bool.{Bool, true, false, cond, ◌&&◌, ◌||◌, not}
-use Prim.Native.Nat.{ℕ, ◌+◌, ◌≤◌}
-use native.Mathlib.Omega.{arith}
+use Prim.Native.Nat.{ℕ, ◌+◌}
 use lib.ListN.{length, length-append}
 use Rattle.octet.specs.Bytes.{same}
 use Rattle.octet.specs.Maybe.{find, is_none}
-use Rattle.octet.proofs.Cases.{of-cond, cond-false}
 use Rattle.octet.proofs.Lists.{same_true}
 use Rattle.fill.specs.Slot.{Slot, is_fill, order_of}
 use Rattle.book.specs.Place.{same_order, known_order, orders_with}

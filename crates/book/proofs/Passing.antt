@@ -7,8 +7,8 @@
 --     rows-unknown     an order that has no fill has no row
 use mathlib.Core.Path.{◌≡◌, refl, sym, ap, ◌∙◌}
 use mathlib.Core.List.{List, [], ◌∷◌, ◌++◌}
-use mathlib.Core.Option.{Option, none, some}
-use mathlib.Core.Bool.{Bool, true, false, cond}
+use mathlib.Core.Option.{Option, none}
+use mathlib.Core.Bool.{true, false}
 use mathlib.Core.Logic.{⊎_elim}
 use Prim.Native.Nat.{ℕ, zero, suc, ◌+◌, ◌-◌, ◌*◌, ◌≤◌, ◌<◌}
 use native.Mathlib.Omega.{arith}
@@ -20,7 +20,7 @@ use Rattle.octet.proofs.Cases.{bool_case, true-not-false, find-here, find-later,
 use Rattle.fill.specs.Slot.{Slot, slot_width, exec_of, order_of}
 use Rattle.book.specs.Memory.{most_slots, slots_here, cells, cell_at}
 use Rattle.book.specs.Place.{same_exec, same_order}
-use Rattle.book.specs.Rows.{Row, first_in, numbered, is_row_of, before, row_place}
+use Rattle.book.specs.Rows.{Row, first_in, numbered, is_row_of, row_place}
 use Rattle.book.specs.Seeing.{some_slot, NoExec, NoOrder, PassesExec, PassesBoth}
 use Rattle.book.specs.declared.Glance.{Glance}
 use Rattle.book.proofs.Cells.{cells-first, cells-next, cells-last, cells-around}

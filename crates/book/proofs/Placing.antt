@@ -26,7 +26,7 @@ use Rattle.octet.specs.Maybe.{find_last, is_none}
 use Rattle.octet.proofs.Cases.{bool_case, cond-true, cond-false, of-cond, or_cases, and_both}
 use Rattle.answer.specs.Numbers.{fault, wrong_value, largest, counted}
 use Rattle.answer.specs.declared.Fault.{Fault}
-use Rattle.fill.specs.Slot.{Slot, is_fill, is_entry, order_of, shares_of, price_of, cum_of}
+use Rattle.fill.specs.Slot.{Slot, is_fill, is_entry, order_of, shares_of, price_of}
 use Rattle.book.specs.Place.{same_exec, same_symbol, same_side, same_contents, by_order, by_exec, place_fill}
 use Rattle.book.specs.Place.{fills_with, orders_with, fill_room, steps, most_fills, most_orders}
 use Rattle.book.specs.Rows.{Row, row_place, first_for, booked_for, is_known}

@@ -22,7 +22,7 @@ use Rattle.octet.proofs.Places.{number-length}
 use Rattle.fill.specs.Slot.{Slot, slot_width}
 use Rattle.book.specs.Place.{most_orders}
 use Rattle.book.specs.Rows.{Row, row_width, row_of}
-use Rattle.book.specs.Memory.{Region, region_of, slots_here, rows_here, most_slots, book_width, cells, cell_at, laid, slots_in, slot_at, fits_after, appended, rows_in, row_at, row_put, holding}
+use Rattle.book.specs.Memory.{Region, region_of, slots_here, rows_here, most_slots, book_width, cells, laid, slots_in, slot_at, fits_after, appended, rows_in, row_put, holding}
 use Rattle.book.proofs.Cells.{cells-length, cells-step, cells-end, cells-append, cells-set, cells-joined, joined-cells, joined_length, cells-inside, Wide}
 
 -- ---- a write, seen from behind and from the front

@@ -9,8 +9,8 @@ use mathlib.Core.Path.{◌≡◌, refl, sym, ap, ◌∙◌}
 use mathlib.Core.Logic.{◌⊎◌, inl, inr, ⊎_elim}
 use mathlib.Core.List.{List, [], ◌∷◌, ◌++◌}
 use mathlib.Core.Option.{Option, none, some}
-use mathlib.Core.Bool.{Bool, true, false, cond, not}
-use Prim.Native.Nat.{ℕ, zero, suc, ◌+◌, ◌-◌, ◌≤◌, ◌<◌}
+use mathlib.Core.Bool.{Bool, true, false, not}
+use Prim.Native.Nat.{ℕ, zero, suc, ◌+◌, ◌≤◌, ◌<◌}
 use native.Mathlib.Omega.{arith}
 use native.Mathlib.Numerals.{add-one}
 use lib.ListN.{length, get_or, drop, set, length-append, get_or-eq_default, get_or-append}
@@ -21,7 +21,7 @@ use Rattle.octet.proofs.Cases.{bool_case, contrary, cond-true, cond-false, of-co
 use Rattle.fill.specs.Slot.{Slot}
 use Rattle.book.specs.Place.{same_order}
 use Rattle.book.specs.Rows.{Row, first_in, booked_in, numbered, head_of, is_row_of, row_for, before, row_place, head_by, booked_by, first_for, booked_for, is_known, on_first}
-use Rattle.book.specs.Seeing.{some_slot, there}
+use Rattle.book.specs.Seeing.{some_slot}
 use Rattle.book.proofs.Finds.{order-empty}
 
 lt-or-le : (a b : ℕ) → (a < b) ⊎ (b ≤ a)

@@ -11,13 +11,13 @@ use mathlib.Core.Logic.{◌⊎◌, ⊎_elim}
 use mathlib.Core.List.{List, [], ◌∷◌, ◌++◌}
 use mathlib.Core.Bool.{Bool, true, false, cond}
 use Prim.Native.Nat.{ℕ, zero, suc, ◌+◌, ◌-◌, ◌*◌, ◌≤◌, ◌<◌, min}
-use native.Mathlib.Nat.{zero-mul, mul-le-mul_right}
+use native.Mathlib.Nat.{mul-le-mul_right}
 use native.Mathlib.Omega.{arith}
 use lib.ListN.{length, take, drop, get_or, set, length-take}
 use lib.Seq.{take-nil, drop-nil}
 use lib.Dec.{ltb, eqb}
 use borrow.Author.Tests.{lt-ltb, le-ltb, ltb-true, eq-eqb}
-use Rattle.octet.specs.Bytes.{part, joined}
+use Rattle.octet.specs.Bytes.{joined}
 use Rattle.octet.specs.Splice.{splice}
 use Rattle.octet.proofs.Cases.{bool_case, contrary, cond-true, cond-false, of-cond, and-make, or_cases, le-or-lt, find-passes}
 use Rattle.octet.proofs.Lists.{drop-done, part-past, splice-over, splice-length}
@@ -27,13 +27,13 @@ use Rattle.book.specs.Place.{most_orders, orders_with}
 use Rattle.book.specs.Admitting.{has_room, load_with}
 use Rattle.book.specs.declared.Load.{Load}
 use Rattle.book.specs.Rows.{Row, row_width, first_in, booked_in, waits_in, row_of, numbered, head_of, is_row_of, before, row_place, row_to, raised, lowered, is_known, on_first, more_of, rows_with, rows_less, day_less, rows_without, day_without}
-use Rattle.book.specs.Memory.{region_of, slots_here, rows_here, most_slots, book_width, cells, cell_at, laid, slots_in, slot_at, fits_after, appended, rows_in, row_at, row_put, row_more, row_fewer, entered, holding, between}
+use Rattle.book.specs.Memory.{region_of, slots_here, rows_here, most_slots, book_width, cells, laid, slots_in, slot_at, fits_after, appended, rows_in, row_at, row_put, row_more, row_fewer, entered, holding, between}
 use Rattle.book.specs.Seeing.{RowsAlone, TakesOne}
-use Rattle.book.proofs.Cells.{cells-length, cells-nth, cells-step, cells-drop, cells-end, joined-cells, cell-within}
+use Rattle.book.proofs.Cells.{cells-nth, cells-step, cells-drop, cells-end, joined-cells}
 use Rattle.book.proofs.Regions.{rows-wide, slots-wide, slot-past, rows-length, slots_length, appended-length, slots-append, rows_append, laid-append, slots-put, put-length, put-set, put-append, laid-put, laid-own, slots-laid, row-wide}
 use Rattle.book.proofs.ByKind.{entry-no-fill, fill-no-entry, load-as}
 use Rattle.book.proofs.Placing.{has_room_lem}
-use Rattle.book.proofs.Rowing.{numbered-past, before-stop, before_on, found-there, found_none, row-empty, known-place, unknown-place, first-set, first-none, before-later}
+use Rattle.book.proofs.Rowing.{numbered-past, before-stop, before_on, found-there, row-empty, known-place, unknown-place, first-set, first-none, before-later}
 
 -- ---- cells past the end of a region are of no bytes
 module _ (w : ℕ) (p : List ℕ → Bool) (passed : p [] ≡ false) where

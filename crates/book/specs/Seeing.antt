@@ -1,5 +1,5 @@
 -- What the searches over a region's cells find, as the private functions say it to one another: no public promise cites this.
-use Rattle.std.specs.Prelude.{ℕ, ◌+◌, ◌-◌, ◌*◌, ◌≤◌, min, ◌≡◌, List, [], ◌∷◌, Bool, true, false, not, ◌&&◌, drop, ltb}
+use Rattle.std.specs.Prelude.{ℕ, ◌-◌, ◌*◌, ◌≤◌, min, ◌≡◌, List, [], ◌∷◌, Bool, true, false, not, ◌&&◌, drop, ltb}
 use Rattle.std.proofs.Math.Option.{Option, none, some}
 use Rattle.octet.specs.Maybe.{find, find_last, is_none}
 use Rattle.octet.specs.Places.{word_at}

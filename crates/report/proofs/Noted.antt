@@ -2,7 +2,7 @@
 --     sound-told     what a report can say of a fill, some report does say, and it keeps the rules
 --     noted     a fill is lawful exactly where some report tells of it, by the rules of now and by document 01's
 use mathlib.Core.Path.{◌≡◌, refl, sym, ap, ◌∙◌, subst}
-use mathlib.Core.Logic.{◌⊎◌, inl, ⊎_elim}
+use mathlib.Core.Logic.{inl, ⊎_elim}
 use mathlib.Core.List.{List, [], ◌∷◌}
 use mathlib.Core.Option.{none}
 use mathlib.Core.Bool.{Bool, true, false, cond}

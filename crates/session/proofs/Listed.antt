@@ -1,7 +1,7 @@
 -- The session reads listed tags alone, so that a look at these tells the same.
 --     facts-listed     what the steps read off a message
 --     word-listed     the value that a reply repeats
-use mathlib.Core.Path.{◌≡◌, refl, ap, ◌∙◌}
+use mathlib.Core.Path.{◌≡◌, refl, ap}
 use mathlib.Core.Bool.{Bool, true, false, cond}
 use mathlib.Core.Option.{Option}
 use Rattle.field.specs.Index.{listed, position, column_of, is_listed}

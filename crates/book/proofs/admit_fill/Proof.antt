@@ -1,4 +1,3 @@
-use Rattle.answer.specs.declared.Fault.{Fault}
 use Rattle.book.proofs.Finds.{known-none, known_some}
 use Rattle.book.proofs.Placing.{placed-already, placed-clash, admit-clash, admit-already}
 use Rattle.book.specs.Memory.{slots_in, rows_in}
@@ -6,10 +5,7 @@ use Rattle.book.specs.Place.{same_exec}
 use Rattle.book.specs.Seeing.{some_slot}
 use Rattle.book.specs.declared.Admitted.TheVariants as admitted
 use Rattle.octet.specs.Maybe.{find_last}
-use mathlib.Core.Bool.{true, false}
-use mathlib.Core.Option.{none, some}
-use mathlib.Core.Path.{◌≡◌, refl, sym, ap, ap₂, ◌∙◌}
-use native.Mathlib.Omega.{arith}
+use mathlib.Core.Path.{◌≡◌, sym, ap, ◌∙◌}
 use borrow.Author.Rules.{rules}
 use Rattle.book.proofs.admit_fill.Statement.{statement}
 use Rattle.book.proofs.admit_fill.Tie as tie

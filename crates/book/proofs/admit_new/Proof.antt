@@ -7,10 +7,9 @@ use Rattle.book.specs.Memory.{slots_in, rows_in}
 use Rattle.book.specs.Rows.{booked_in, head_of, first_for}
 use Rattle.book.specs.Seeing.{some_slot}
 use Rattle.book.specs.declared.Admitted.TheVariants as admitted
-use borrow.Author.Tests.{not-true, not-false}
 use lib.ListN.{get_or}
 use mathlib.Core.List.{[]}
-use mathlib.Core.Path.{◌≡◌, refl, sym, ap, ap₂, ◌∙◌}
+use mathlib.Core.Path.{◌≡◌, sym, ap, ◌∙◌}
 use native.Mathlib.Omega.{arith}
 use borrow.Author.Rules.{rules}
 use Rattle.book.proofs.admit_new.Statement.{statement}

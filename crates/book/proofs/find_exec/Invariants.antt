@@ -1,4 +1,4 @@
-use Prim.Native.Nat.{◌-◌, ◌≤◌}
+use Prim.Native.Nat.{◌≤◌}
 use Rattle.book.specs.Seeing.{NoExec}
 use Rattle.book.proofs.find_exec.Given as goal
 

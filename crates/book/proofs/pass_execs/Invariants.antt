@@ -1,4 +1,4 @@
-use Prim.Native.Nat.{◌-◌, ◌≤◌}
+use Prim.Native.Nat.{◌≤◌}
 use Rattle.book.specs.Seeing.{PassesExec}
 use Rattle.book.proofs.pass_execs.Given as goal
 

@@ -1,4 +1,4 @@
-use Prim.Native.Nat.{◌-◌, ◌≤◌}
+use Prim.Native.Nat.{◌≤◌}
 use Rattle.book.specs.Seeing.{PassesBoth}
 use Rattle.book.proofs.pass_over.Given as goal
 

@@ -1,4 +1,3 @@
-use Prim.Native.Nat.{◌-◌}
 use Rattle.book.proofs.Cells.{cells-length}
 use Rattle.book.proofs.Passing.{rows-unknown}
 use Rattle.book.specs.Memory.{slots_in, rows_in, region_of, rows_here}

@@ -1,4 +1,4 @@
-use Prim.Native.Nat.{◌-◌, ◌≤◌}
+use Prim.Native.Nat.{◌≤◌}
 use Rattle.book.specs.Seeing.{NoExec, NoOrder}
 use Rattle.book.proofs.walk.Given as goal
 

@@ -1,16 +1,11 @@
 -- The pass: what is noted so far and the pieces that are left make the whole index.
-use borrow.Author.Rules.{rules}
 use mathlib.Core.Path.{◌≡◌, refl, ap, sym, ◌∙◌}
-use mathlib.Core.Logic.{⊎_elim}
 use mathlib.Core.List.{List}
-use Prim.Native.Nat.{◌-◌, ◌≤◌}
 use native.Mathlib.Omega.{arith}
-use lib.ListN.{length}
-use Rattle.field.specs.Pieces.{pieces_of, scan_of, and_then}
-use Rattle.field.specs.Stands.{located}
+use Rattle.field.specs.Pieces.{pieces_of, and_then}
 use Rattle.field.specs.declared.Piece.{Piece}
-use Rattle.field.proofs.Cuts.{rest_at, Stepped, stepped, rest_end, scan_in, scan-at, and-then-sound, and-then-assoc}
-use Rattle.field.proofs.IndexLaws.{filled_from, nothing, pass_on, filled}
+use Rattle.field.proofs.Cuts.{stepped, rest_end, scan_in, scan-at, and-then-sound, and-then-assoc}
+use Rattle.field.proofs.IndexLaws.{filled_from, pass_on, filled}
 use Rattle.field.proofs.index_into.Goals as goal
 use Rattle.field.proofs.index_into.Goals.{in-Sound, in-Malformed, in-Empty}
 

@@ -1,15 +1,10 @@
-use borrow.Author.Rules.{rules}
-use mathlib.Core.Path.{◌≡◌, refl, ap, sym, ◌∙◌}
-use mathlib.Core.Logic.{⊎_elim}
-use mathlib.Core.List.{List}
+use mathlib.Core.Path.{◌≡◌}
 use Prim.Native.Nat.{◌-◌, ◌≤◌}
-use native.Mathlib.Omega.{arith}
 use lib.ListN.{length}
 use Rattle.field.specs.Pieces.{pieces_of, scan_of, and_then}
 use Rattle.field.specs.Stands.{located}
-use Rattle.field.specs.declared.Piece.{Piece}
-use Rattle.field.proofs.Cuts.{rest_at, Stepped, stepped, rest_end, scan_in, scan-at, and-then-sound, and-then-assoc}
-use Rattle.field.proofs.IndexLaws.{filled_from, nothing, pass_on, filled}
+use Rattle.field.proofs.Cuts.{rest_at, scan_in}
+use Rattle.field.proofs.IndexLaws.{filled_from, nothing}
 use Rattle.field.proofs.index_into.Given as goal
 
 abbrev pub invariant-loop-i : goal.invariant-loop-i

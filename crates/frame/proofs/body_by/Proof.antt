@@ -3,7 +3,6 @@ use mathlib.Core.Path.{◌≡◌, sym, ◌∙◌, ap}
 use native.Mathlib.Omega.{arith}
 use Prim.Native.Nat.{◌+◌, ◌≤◌}
 use lib.ListN.{length, drop, length-drop}
-use Rattle.octet.specs.Bytes.{part}
 use Rattle.octet.proofs.Lists.{part-rest, run-most}
 use Rattle.text.specs.Decimal.{digit_run}
 use Rattle.frame.specs.Finding.{body_by}

@@ -5,7 +5,7 @@ use mathlib.Core.Bool.{true}
 use mathlib.Core.List.{List}
 use Prim.Native.Nat.{ℕ, ◌-◌}
 use lib.ListN.{length, drop, length-drop}
-use borrow.Author.Tests.{le-ltb, lt-ltb, le-leb, lt-leb, not-true, not-false}
+use borrow.Author.Tests.{le-ltb, lt-ltb, le-leb, lt-leb}
 use Rattle.octet.specs.Bytes.{bytes_of, agree, until_byte}
 use Rattle.octet.proofs.Lists.{part-rest}
 use Rattle.frame.specs.Finding.{body_ok}

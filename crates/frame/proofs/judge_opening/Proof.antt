@@ -4,7 +4,6 @@ use native.Mathlib.Omega.{arith}
 use mathlib.Core.Bool.{true}
 use Prim.Native.Nat.{◌+◌, ◌≤◌}
 use lib.ListN.{length, drop, drop_of_length-le}
-use borrow.Author.Tests.{not-true, not-false}
 use Rattle.octet.specs.Bytes.{bytes_of, agree}
 use Rattle.octet.proofs.Lists.{part-rest}
 use Rattle.frame.proofs.Steps.{judge-two, digits-past}

@@ -4,7 +4,7 @@ use native.Mathlib.Omega.{arith}
 use Prim.Native.Nat.{◌+◌}
 use lib.ListN.{take, drop}
 use lib.Seq.{length-take-le}
-use borrow.Author.Tests.{le-ltb, lt-ltb, not-true, not-false}
+use borrow.Author.Tests.{le-ltb, lt-ltb}
 use Rattle.octet.specs.Bytes.{agree, part}
 use Rattle.octet.proofs.Lists.{part-rest, part-sized}
 use Rattle.text.specs.Decimal.{check_sum}

@@ -1,10 +1,9 @@
 -- `frame::skip` meets its contract.
 use mathlib.Core.Path.{◌≡◌, ◌∙◌, refl}
 use mathlib.Core.Bool.{true}
-use Prim.Native.Nat.{◌+◌, ◌-◌}
+use Prim.Native.Nat.{◌+◌}
 use native.Mathlib.Nat.{add-zero, add_assoc}
 use native.Mathlib.Omega.{arith}
-use mathlib.Core.Logic.{⊎_elim}
 use lib.ListN.{drop}
 use borrow.Author.Tests.{leb-true, leb-false}
 use Rattle.frame.specs.Finding.{skip_of}
@@ -55,7 +54,7 @@ returns c =
     let a = c.args in
     let yes : agree a.o.now (drop p a.s.now) ≡ true =
     elim c.then-o-i.branch [
-      then-o-i-via-then-o-i w ↦ c.compare.invariant.1 ∙ agree-out-left _ _ i (p + i) (omega arith)
-    | then-o-i-via-else-o-i+then-s-p w ↦ c.compare.invariant.1 ∙ agree-out-right _ _ i (p + i) (omega (arith, leb-true))
+      | then-o-i-via-then-o-i w ↦ c.compare.invariant.1 ∙ agree-out-left _ _ i (p + i) (omega arith)
+      | then-o-i-via-else-o-i+then-s-p w ↦ c.compare.invariant.1 ∙ agree-out-right _ _ i (p + i) (omega (arith, leb-true))
     ] in
     omega (arith, to_agree-here a.o.now (drop p a.s.now) yes)

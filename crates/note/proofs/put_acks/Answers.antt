@@ -1,6 +1,5 @@
 -- `note::put_acks` meets its contract.
 use mathlib.Core.Path.{sym, ◌∙◌}
-use Prim.Native.Nat.{◌-◌}
 use native.Mathlib.Omega.{arith}
 use lib.ListN.{length-set}
 use Rattle.note.specs.Notes.{Acks, note_bytes}

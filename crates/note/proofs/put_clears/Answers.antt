@@ -1,6 +1,5 @@
 -- `note::put_clears` meets its contract.
 use mathlib.Core.Path.{sym}
-use Prim.Native.Nat.{◌-◌}
 use native.Mathlib.Omega.{arith}
 use lib.ListN.{set}
 use Rattle.note.specs.Notes.{Clears, note_bytes}

@@ -1,6 +1,5 @@
 -- `note::put_raises` meets its contract.
 use mathlib.Core.Path.{sym, ap, ◌∙◌}
-use Prim.Native.Nat.{◌-◌}
 use native.Mathlib.Omega.{arith}
 use Rattle.octet.specs.Splice.{splice}
 use Rattle.note.specs.Notes.{Raises, note_bytes}

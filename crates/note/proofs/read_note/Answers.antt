@@ -1,6 +1,5 @@
 -- `note::read_note` meets its contract: the kind's size says whether the note is whole, its class what it says.
 use mathlib.Core.Path.{sym, ap, ◌∙◌}
-use Prim.Native.Nat.{◌-◌}
 use native.Mathlib.Omega.{arith}
 use Rattle.note.specs.Notes.{first_in}
 use Rattle.note.proofs.Telling.{read_none, first_part, first-whole}

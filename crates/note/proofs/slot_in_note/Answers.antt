@@ -1,7 +1,7 @@
 -- `note::slot_in_note` meets its contract: the first byte that its kind says, and the parts of its note laid out as a slot has them.
 use mathlib.Core.Path.{◌≡◌, refl, sym, ap, ap₂, ◌∙◌}
 use mathlib.Core.List.{List}
-use Prim.Native.Nat.{ℕ, ◌-◌}
+use Prim.Native.Nat.{ℕ}
 use native.Mathlib.Omega.{arith}
 use lib.ListN.{length, get_or, replicate, set}
 use Rattle.octet.specs.Bytes.{sum_of}

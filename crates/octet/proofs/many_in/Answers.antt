@@ -1,8 +1,8 @@
 -- `octet::many_in` meets its contract: the flag tells of the i bytes passed.
 use borrow.Author.Rules.{rules}
 use mathlib.Core.Path.{◌≡◌, refl, ap, ◌∙◌}
-use mathlib.Core.Logic.{inl, ⊎_elim}
-use Prim.Native.Nat.{ℕ, ◌-◌, ◌+◌}
+use mathlib.Core.Logic.{inl}
+use Prim.Native.Nat.{ℕ, ◌+◌}
 use native.Mathlib.Omega.{arith}
 use mathlib.Core.Bool.{false}
 use lib.ListN.{drop, get_or}
@@ -26,11 +26,11 @@ loop-i-preserved c =
     λ e. told-stop t rest c.loop-i.outside i (run-stop a.low a.high s i (omega arith) e) c.loop-i.invariant.1 in (
       search rules,
       elim c.if-high-b.branch [
-        then-high-b w ↦ rw w.outside-is (stop (is-above a.low a.high _ w.if-high-b.true))
-      | else-high-b w ↦ rw w.outside-is (elim c.if-b-low.branch [
-          then-b-low v ↦ rw v.outside-is (stop (is_below a.low a.high _ v.if-b-low.true))
-        | else-b-low v ↦ rw v.outside-is (told-go t rest c.loop-i.outside i
-          (run-go a.low a.high s i (omega arith) (is-between a.low a.high _ v.if-b-low.false w.if-high-b.false)) c.loop-i.invariant.1)
+        | then-high-b w ↦ rw w.outside-is (stop (is-above a.low a.high _ w.if-high-b.true))
+        | else-high-b w ↦ rw w.outside-is (elim c.if-b-low.branch [
+          | then-b-low v ↦ rw v.outside-is (stop (is_below a.low a.high _ v.if-b-low.true))
+          | else-b-low v ↦ rw v.outside-is (told-go t rest c.loop-i.outside i
+              (run-go a.low a.high s i (omega arith) (is-between a.low a.high _ v.if-b-low.false w.if-high-b.false)) c.loop-i.invariant.1)
         ])
       ],
     )

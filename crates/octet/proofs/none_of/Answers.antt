@@ -1,8 +1,8 @@
 -- `octet::none_of` meets its contract: the flag tells of the i bytes passed.
 use borrow.Author.Rules.{rules}
 use mathlib.Core.Path.{◌≡◌, refl, ap, ◌∙◌}
-use mathlib.Core.Logic.{inl, ⊎_elim}
-use Prim.Native.Nat.{ℕ, ◌-◌, ◌+◌}
+use mathlib.Core.Logic.{inl}
+use Prim.Native.Nat.{ℕ, ◌+◌}
 use native.Mathlib.Omega.{arith}
 use lib.ListN.{drop}
 use lib.Dec.{leb}
@@ -27,9 +27,9 @@ loop-i-preserved c =
     let e : a.at + i + 1 ≡ a.at + (i + 1) = omega arith in (
       search rules,
       elim c.if-s-at.branch [
-        then-s-at w ↦ rw w.hits-is (told-stop t rest c.loop-i.hits i (until_stop a.b s (a.at + i) (omega arith) w.if-s-at.true) c.loop-i.invariant.1)
-      | else-s-at w ↦ rw w.hits-is (told-go t rest c.loop-i.hits i
-          (until-go a.b s (a.at + i) (omega arith) w.if-s-at.false ∙ ap (λ (k : ℕ). 1 + until_byte a.b (drop k s)) e) c.loop-i.invariant.1)
+        | then-s-at w ↦ rw w.hits-is (told-stop t rest c.loop-i.hits i (until_stop a.b s (a.at + i) (omega arith) w.if-s-at.true) c.loop-i.invariant.1)
+        | else-s-at w ↦ rw w.hits-is (told-go t rest c.loop-i.hits i
+            (until-go a.b s (a.at + i) (omega arith) w.if-s-at.false ∙ ap (λ (k : ℕ). 1 + until_byte a.b (drop k s)) e) c.loop-i.invariant.1)
       ],
     )
 

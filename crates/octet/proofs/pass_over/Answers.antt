@@ -1,7 +1,6 @@
 -- `octet::pass_over` meets its contract: no byte passed is the one looked for.
 use borrow.Author.Tests.{leb-true}
 use mathlib.Core.Path.{sym, ◌∙◌}
-use Prim.Native.Nat.{◌-◌}
 use native.Mathlib.Omega.{arith}
 use lib.ListN.{drop}
 use Rattle.octet.specs.Bytes.{until_byte}

@@ -3,7 +3,7 @@ use borrow.Author.Rules.{rules}
 use native.Mathlib.Omega.{arith}
 use native.Mathlib.Nat.{zero-add}
 use mathlib.Core.Path.{sym, ◌∙◌, ap}
-use Prim.Native.Nat.{◌≤◌, ◌<◌, ◌+◌, ◌-◌, ◌%◌}
+use Prim.Native.Nat.{◌≤◌, ◌<◌, ◌+◌, ◌%◌}
 use lib.ListN.{length, length-set}
 use Rattle.octet.specs.Places.{high, HighFirst}
 use Rattle.octet.specs.Splice.{splice}

@@ -1,6 +1,5 @@
 -- `octet::run_in` meets its contract: i bytes are passed, and what is left holds the rest.
 use borrow.Author.Rules.{rules}
-use Prim.Native.Nat.{◌-◌}
 use native.Mathlib.Omega.{arith}
 use Rattle.octet.proofs.Lists.{run-go, run-stop, run-done, is-between, is_below, is-above}
 use Rattle.octet.proofs.run_in.Goals as goal

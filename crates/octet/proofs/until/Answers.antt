@@ -1,5 +1,4 @@
 -- `octet::until` meets its contract: i bytes are passed, and what is left holds the rest.
-use Prim.Native.Nat.{◌-◌}
 use native.Mathlib.Omega.{arith}
 use Rattle.octet.proofs.Lists.{until-go, until_stop, until-done}
 use Rattle.octet.proofs.until.Goals as goal

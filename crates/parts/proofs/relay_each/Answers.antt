@@ -1,6 +1,5 @@
 -- `parts::relay_each` meets its contract: each turn writes one part more.
 use mathlib.Core.Path.{refl, sym, ◌∙◌}
-use Prim.Native.Nat.{◌-◌}
 use native.Mathlib.Omega.{arith}
 use Rattle.parts.proofs.Relaying.{going-room, going_on, turns-done}
 use Rattle.parts.proofs.relay_each.Goals as goal

@@ -2,7 +2,6 @@
 use borrow.Author.Rules.{rules}
 use mathlib.Core.Bool.{true}
 use mathlib.Core.Path.{◌≡◌, refl, sym, ◌∙◌}
-use borrow.Author.Tests.{not-true, not-false}
 use Rattle.report.specs.Report.{is_crossed, cum_ok, leaves_ok, tied}
 use Rattle.report.proofs.Rules.{rules-told}
 use Rattle.report.proofs.rule_fault.Statement.{statement}

@@ -1,6 +1,5 @@
 -- `restart::replay` meets its contract. The invariant: the whole restart is what the rest of the notes leads to from the counts and the memory.
 use mathlib.Core.Path.{ap, sym, ◌∙◌}
-use Prim.Native.Nat.{◌-◌}
 use native.Mathlib.Omega.{arith}
 use lib.ListN.{length}
 use Rattle.octet.proofs.Lists.{part-rest}

@@ -1,6 +1,6 @@
 -- `restart::restart` meets its contract: the used slots of the replay are copied, and nothing where it was refused.
 use mathlib.Core.Path.{sym, ap₂, ◌∙◌}
-use Prim.Native.Nat.{ℕ, ◌-◌}
+use Prim.Native.Nat.{ℕ}
 use lib.ListN.{length}
 use Rattle.book.specs.Memory.{slots_in, rows_in, holding}
 use Rattle.restart.specs.Restart.{restart}

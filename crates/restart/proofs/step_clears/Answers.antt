@@ -1,7 +1,6 @@
 -- `restart::step_clears` meets its contract.
 use mathlib.Core.Path.{sym, ◌∙◌}
 use mathlib.Core.List.{[]}
-use Prim.Native.Nat.{◌-◌}
 use lib.ListN.{length}
 use borrow.Author.Tests.{eq-eqb, ne_eqb}
 use Rattle.book.specs.Memory.{slots_in}

@@ -1,7 +1,6 @@
 -- `restart::step_raises` meets its contract.
 use mathlib.Core.Path.{sym, ◌∙◌}
 use mathlib.Core.List.{[]}
-use Prim.Native.Nat.{◌-◌}
 use Rattle.note.specs.Notes.{Raises}
 use Rattle.restart.specs.Steps.{bare}
 use Rattle.restart.proofs.Stepping.{step-no, step-yes, on-raises}

@@ -1,6 +1,5 @@
 -- `restart::take_note` meets its contract, class by class.
 use mathlib.Core.Path.{sym, ap, ◌∙◌}
-use Prim.Native.Nat.{◌-◌}
 use Rattle.note.proofs.Asking.{untold, was_read}
 use Rattle.restart.specs.Steps.{kept_in, step_read, mem_read}
 use Rattle.restart.proofs.Stepping.{any-raises, any-clears, take_whole, take-books, mem-raises, mem-clears}

@@ -1,6 +1,6 @@
 -- `text::byte_sum` meets its contract. The invariant: the total is the sum of the bytes passed, modulo 256.
 -- Assumes nothing.
-use Rattle.std.proofs.Common.{◌-◌, refl, ap, ◌∙◌, arith, take_all}
+use Rattle.std.proofs.Common.{refl, ap, ◌∙◌, arith, take_all}
 use Rattle.text.specs.Decimal.{check_sum}
 use Rattle.text.proofs.SumLaws.{sum_more}
 use Rattle.text.proofs.byte_sum.Goals as goal

@@ -1,6 +1,6 @@
 -- `text::bytes_at` meets its contract. The invariant: the text is the first one with the first i bytes of s.
 -- Assumes nothing.
-use Rattle.std.proofs.Common.{◌≡◌, ◌-◌, ◌<◌, length, take, sym, refl, ◌∙◌, add-one, arith, take_all, take-suc}
+use Rattle.std.proofs.Common.{◌≡◌, ◌<◌, length, take, sym, refl, ◌∙◌, add-one, arith, take_all, take-suc}
 use Rattle.text.specs.Writing.{puts}
 use Rattle.text.proofs.Puts.{puts-puts}
 use Rattle.text.proofs.bytes_at.Goals as goal

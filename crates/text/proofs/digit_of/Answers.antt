@@ -1,6 +1,6 @@
 -- `text::digit_of` meets its contract. The invariant: the rest is n without its last i digits.
 -- Assumes nothing.
-use Rattle.std.proofs.Common.{◌≡◌, ◌-◌, sym, pow-suc, div-one, add-one, arith}
+use Rattle.std.proofs.Common.{◌≡◌, sym, pow-suc, div-one, add-one, arith}
 use native.Mathlib.Nat.{div-div-eq-div-mul}
 use Rattle.text.proofs.digit_of.Goals as goal
 

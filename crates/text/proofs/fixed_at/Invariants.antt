@@ -1,4 +1,4 @@
-use Rattle.std.proofs.Common.{◌≡◌, ◌-◌}
+use Rattle.std.proofs.Common.{◌≡◌}
 use Rattle.text.specs.Decimal.{fixed}
 use Rattle.text.specs.Writing.{puts, text_with}
 use Rattle.text.proofs.fixed_at.Given as goal

@@ -1,7 +1,6 @@
 -- `value::like_run` meets its contract: i bytes are like the pattern, and what is left of both holds the rest.
 use borrow.Author.Rules.{rules}
 use mathlib.Core.Path.{sym, ◌∙◌}
-use Prim.Native.Nat.{◌-◌}
 use native.Mathlib.Omega.{arith}
 use Rattle.value.proofs.Like.{like-go, like-stop, like-past, like-done}
 use Rattle.value.proofs.like_run.Goals as goal

@@ -1,6 +1,5 @@
 -- `value::price_at_front` meets its contract, with and without a point.
 use borrow.Author.Rules.{rules}
-use borrow.Author.Tests.{not-true, not-false}
 use mathlib.Core.Path.{sym, ap, ◌∙◌}
 use Prim.Native.Nat.{◌+◌, ◌*◌, ◌≤◌}
 use native.Mathlib.Nat.{pow-le-pow_right, mul-le-mul_left}

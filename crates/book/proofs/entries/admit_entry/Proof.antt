@@ -1,6 +1,5 @@
 use mathlib.Core.Path.{◌≡◌, sym, ap, ◌∙◌}
 use lib.Dec.{ltb}
-use borrow.Author.Tests.{not-true, not-false}
 use Rattle.octet.proofs.Cases.{and_right}
 use Rattle.book.specs.Entries.{entry_room}
 use Rattle.book.specs.Memory.{most_slots, slots_in, rows_in}

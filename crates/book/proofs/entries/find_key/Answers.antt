@@ -1,8 +1,7 @@
 use mathlib.Core.Path.{◌≡◌, sym, ap, ◌∙◌}
 use mathlib.Core.Bool.{false}
-use mathlib.Core.Logic.{⊎_elim}
 use native.Mathlib.Omega.{arith}
-use Prim.Native.Nat.{◌-◌, ◌*◌}
+use Prim.Native.Nat.{◌*◌}
 use Rattle.octet.specs.Maybe.{find}
 use Rattle.octet.specs.Places.{word_at}
 use Rattle.octet.proofs.Lists.{part-sized}
@@ -38,9 +37,9 @@ loop-i-preserved c =
     let word = g.ensures ∙ ap (word_at _) c.key_of.ensures in
     let other : same_key e _ ≡ false =
     elim c.if-word_at-g.branch [
-      then-word_at-g+else-same_key w ↦ sym w.same_key.ensures ∙ w.if-same_key.false
-    | else-word_at-g w ↦ key-glance e _ g.result.at g.result.word word
-      (λ x. w.if-word_at-g.false (c.word_at.ensures ∙ ap (word_at g.result.at) c.key_of-in-loop-i.ensures ∙ x))
+      | then-word_at-g+else-same_key w ↦ sym w.same_key.ensures ∙ w.if-same_key.false
+      | else-word_at-g w ↦ key-glance e _ g.result.at g.result.word word
+          (λ x. w.if-word_at-g.false (c.word_at.ensures ∙ ap (word_at g.result.at) c.key_of-in-loop-i.ensures ∙ x))
     ] in
     (search-on (same_key e) (key-empty e) m a.n h.i h.invariant.0 _ (omega arith) (part-sized m (h.i * slot_width) slot_width) other, omega arith)
 

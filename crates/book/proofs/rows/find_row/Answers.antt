@@ -1,12 +1,10 @@
-use Prim.Native.Nat.{ℕ, ◌-◌}
+use Prim.Native.Nat.{ℕ}
 use Rattle.book.proofs.Written.{head-inside, rows_start, rows-here, rows_on, rows-past}
 use Rattle.book.specs.Memory.{slots_in}
 use Rattle.book.specs.Place.{same_order}
 use Rattle.book.specs.Rows.{is_row_of, head_of}
 use Rattle.octet.specs.Places.{word_at}
-use borrow.Author.Tests.{not-false}
 use mathlib.Core.Bool.{false}
-use mathlib.Core.Logic.{⊎_elim}
 use mathlib.Core.Path.{◌≡◌, sym, ap, ◌∙◌}
 use native.Mathlib.Omega.{arith}
 use Rattle.book.proofs.rows.find_row.Goals as goal
@@ -39,8 +37,8 @@ loop-i-preserved c =
     let head = ap (λ (k : ℕ). head_of (slots_in k m) row) c.inside-most.ensures ∙ head-inside a.last m row ∙ ap (head_of (slots_in a.last m)) c.row_at-row.ensures in
     let other : is_row_of (slots_in c.inside-most.result m) f row ≡ false =
     elim c.if-not-is_other.branch [
-      then-not-is_other+else-same_order w ↦ ap (same_order f) (sym w.head_of-first.ensures) ∙ sym w.same_order.ensures ∙ w.if-same_order.false
-    | else-not-is_other w ↦ c.is_other.ensures f word w.if-not-is_other.false
+      | then-not-is_other+else-same_order w ↦ ap (same_order f) (sym w.head_of-first.ensures) ∙ sym w.same_order.ensures ∙ w.if-same_order.false
+      | else-not-is_other w ↦ c.is_other.ensures f word w.if-not-is_other.false
     ] in
     (rows_on a.last a.orders m f h.i (omega arith) (ap (same_order f) (sym head) ∙ other) h.invariant.0, omega arith)
 

@@ -1,4 +1,3 @@
-use Prim.Native.Nat.{◌-◌}
 use Rattle.book.proofs.Written.{taking-on, taking-done, alone-own}
 use mathlib.Core.List.{[]}
 use mathlib.Core.Path.{refl}

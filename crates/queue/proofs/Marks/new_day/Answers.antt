@@ -1,7 +1,6 @@
 -- `queue::Marks::new_day` meets its contract. The lent book is not touched.
 use mathlib.Core.Path.{refl, ap, ◌∙◌}
 use Rattle.queue.specs.declared.Day.TheVariants as day
-use Prim.Native.Nat.{◌-◌}
 use native.Mathlib.Omega.{arith}
 use Rattle.queue.proofs.Offering.{day-waiting, day-fresh}
 use Rattle.queue.proofs.Marks.new_day.Goals as goal

@@ -1,6 +1,6 @@
 -- `queue::Marks::offer` meets its contract: refused, none, or the next slot of the lent book as its line.
 use mathlib.Core.Path.{ap, ◌∙◌}
-use Prim.Native.Nat.{◌-◌, ◌≤◌, ◌<◌}
+use Prim.Native.Nat.{◌≤◌, ◌<◌}
 use native.Mathlib.Omega.{arith}
 use lib.ListN.{length}
 use Rattle.fill.specs.Slot.{line_least}

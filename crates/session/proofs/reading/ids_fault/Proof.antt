@@ -1,6 +1,5 @@
 -- `session::reading::ids_fault` meets its contract: 49, then 56.
 use borrow.Author.Rules.{rules}
-use borrow.Author.Tests.{not-true, not-false}
 use mathlib.Core.Path.{◌≡◌}
 use Rattle.field.specs.Pieces.{is_that}
 use Rattle.field.specs.Look.{look_in, first}

@@ -2,7 +2,7 @@
 use borrow.Author.Rules.{rules}
 use mathlib.Core.Path.{◌≡◌, sym, ◌∙◌}
 use mathlib.Core.List.{[], ◌∷◌}
-use lib.ListN.{length, get_or}
+use lib.ListN.{get_or}
 use Rattle.table.specs.Rows.{kind_of}
 use Rattle.table.proofs.Types.{kind-ucc, kind-long, kind-one, kind-none}
 use Rattle.table.proofs.rows.kind_of.Statement.{statement}
