@@ -1,21 +1,19 @@
 -- The stored sums are those of the fills that wait, in every world, and with the contracts acknowledged they are the total of demand 3; and the page shows them.
 --     totals     the theorem of every world
 --     page-held, page-cited     of the page, and that its function's own contract says so
-use Prim.Native.Nat.{ℕ, zero, suc, ◌+◌, ◌*◌, ◌≤◌, ◌<◌, min}
+use Prim.Native.Nat.{ℕ, zero, suc, ◌+◌, ◌≤◌, ◌<◌}
 use mathlib.Core.Path.{◌≡◌, refl, sym, ap, ap₂, ◌∙◌, subst}
 use mathlib.Core.List.{List, [], ◌∷◌, ◌++◌, map, map-map}
-use mathlib.Core.Option.{Option, none, some}
-use mathlib.Core.Bool.{Bool, true, false, cond}
+use mathlib.Core.Option.{none, some}
+use mathlib.Core.Bool.{true, false}
 use mathlib.Core.Logic.{⊎_elim}
 use native.Mathlib.Omega.{arith}
-use lib.ListN.{length, drop, take, get_or, replicate, length-map}
-use lib.Seq.{take-length}
+use lib.ListN.{length, drop, get_or, replicate}
 use Rattle.octet.specs.Bytes.{same, sum_of}
 use Rattle.octet.specs.Splice.{splice}
 use Rattle.octet.specs.Maybe.{find}
 use Rattle.octet.proofs.Cases.{bool_case, and_both, cond-true, cond-false, or_left, or_right, find-passes}
 use Rattle.octet.proofs.Lists.{same_true, same_refl}
-use Rattle.answer.specs.Numbers.{most_contracts}
 use Rattle.fill.specs.Slot.{Slot, is_fill, order_of}
 use Rattle.book.specs.Place.{same_order, sum_where, most_orders}
 use Rattle.book.specs.Rows.{Row, waits_in, head_of, row_for}
@@ -26,7 +24,7 @@ use Rattle.book.proofs.Stored.{Fits, orders-once, map-alike, first-there, head-r
 use Rattle.note.specs.Kept.{Kept, empty, waiting}
 use Rattle.note.proofs.Keeping.{Sound, fits_in, sums-few, fills-all, rows-many}
 use Rattle.queue.specs.declared.Marks.{Marks}
-use Rattle.page.specs.Page.{Pages, row_as, shown_of, told_of, due_of, page_of}
+use Rattle.page.specs.Page.{Pages, row_as, shown_of, page_of}
 use Rattle.page.specs.declared.OrderRow.{OrderRow}
 use Rattle.page.specs.declared.Paged.{Paged}
 use Rattle.page.specs.declared.Paged.TheVariants as paged
@@ -34,7 +32,7 @@ use Rattle.page.proofs.Shown.{told-few, told-all, due-few, due_all, page-rows, n
 use Rattle.page.specs.contracts.page as page
 use Rattle.octet.proofs.Once.{by}
 use Rattle.receiver.specs.State.{State, seen}
-use Rattle.promise.specs.World.{World, Step, Cut, step, world, survivors, left, today, acknowledged, booked_by, distinct}
+use Rattle.promise.specs.World.{World, Step, Cut, step, world, survivors, left, today, acknowledged}
 use Rattle.promise.specs.Held.{Holding, Comes}
 use Rattle.promise.specs.Totals.{waits_by, waits_for, RowIs, Totals, order_row, Page}
 use Rattle.promise.proofs.Good.{Good, good, good-step, safe-live, whole-now, cut-past}

@@ -1,8 +1,7 @@
 -- `listing::count_from` meets its contract: the count so far and the slots to come lead to all of it.
 use mathlib.Core.Path.{◌≡◌, sym, ap, ◌∙◌}
-use mathlib.Core.Logic.{⊎_elim}
 use mathlib.Core.Bool.{cond}
-use Prim.Native.Nat.{ℕ, ◌+◌, ◌-◌, ◌≤◌}
+use Prim.Native.Nat.{ℕ, ◌+◌, ◌≤◌}
 use native.Mathlib.Omega.{arith}
 use Rattle.octet.proofs.Cases.{of-cond, cond-true, cond-false}
 use Rattle.fill.specs.Slot.{is_fill}

@@ -1,5 +1,4 @@
 -- `listing::damaged_text` meets its contract.
-use Prim.Native.Nat.{◌-◌}
 use Rattle.octet.specs.Bytes.{bytes_of}
 use Rattle.text.specs.Decimal.{decimal}
 use Rattle.fill.specs.Slot.{line_feed}

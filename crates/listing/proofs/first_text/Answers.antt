@@ -1,10 +1,9 @@
 -- `listing::first_text` meets its contract.
 use mathlib.Core.Path.{ap, ◌∙◌}
-use Prim.Native.Nat.{◌+◌, ◌-◌}
 use Rattle.octet.specs.Bytes.{bytes_of}
 use Rattle.text.specs.Decimal.{decimal}
 use Rattle.fill.specs.Slot.{line_feed}
-use Rattle.listing.specs.Listing.{contracts, first_of}
+use Rattle.listing.specs.Listing.{first_of}
 use Rattle.listing.proofs.Pages.{text-three}
 use mathlib.Core.List.{◌++◌}
 use Rattle.text.specs.declared.Text.{Text}

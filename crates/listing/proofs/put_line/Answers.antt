@@ -1,6 +1,5 @@
 -- `listing::put_line` meets its contract: the line is written apart and copied.
 use mathlib.Core.Path.{ap, ◌∙◌}
-use Prim.Native.Nat.{◌-◌}
 use lib.ListN.{replicate}
 use Rattle.octet.specs.Splice.{splice}
 use Rattle.fill.specs.Booked.{line_of}

@@ -1,6 +1,5 @@
 -- `listing::put_lines` meets its contract: the lines so far stand there, and the others are to come.
 use mathlib.Core.Path.{ap, ◌∙◌}
-use Prim.Native.Nat.{◌-◌}
 use native.Mathlib.Omega.{arith}
 use lib.ListN.{length}
 use Rattle.octet.proofs.Lists.{splice-length}

@@ -1,6 +1,5 @@
 -- `listing::shares_in` meets its contract.
 use mathlib.Core.Path.{sym, ◌∙◌}
-use Prim.Native.Nat.{◌-◌}
 use native.Mathlib.Omega.{arith}
 use Rattle.octet.proofs.Cases.{cond-true, cond-false}
 use Rattle.fill.specs.Slot.{is_fill, shares_of}

@@ -1,5 +1,4 @@
 -- `listing::sum_from` meets its contract: what is summed and what is to come are all of it.
-use Prim.Native.Nat.{◌-◌}
 use native.Mathlib.Omega.{arith}
 use Rattle.listing.proofs.Pages.{sum_step, sum_done}
 use Rattle.listing.proofs.sum_from.Goals as goal

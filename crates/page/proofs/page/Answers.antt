@@ -1,11 +1,9 @@
 -- `page::page` meets its contract: each turn puts one row of the page, and `told` makes the answer.
 use mathlib.Core.Path.{◌≡◌, sym, ap, ◌∙◌}
-use mathlib.Core.List.{List}
 use Prim.Native.Nat.{ℕ, ◌+◌, ◌≤◌, ◌<◌}
 use native.Mathlib.Omega.{arith}
 use lib.ListN.{length, set}
 use Rattle.page.specs.Page.{due_of, told_of}
-use Rattle.page.specs.declared.OrderRow.{OrderRow}
 use Rattle.page.proofs.Upto.{upto, upto-none, upto-more, upto_all, length-upto}
 use Rattle.page.proofs.page.Goals as goal
 

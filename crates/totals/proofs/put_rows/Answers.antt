@@ -1,6 +1,5 @@
 -- `totals::put_rows` meets its contract: the lines of the rows so far stand there.
 use mathlib.Core.Path.{◌≡◌, ap, ◌∙◌}
-use Prim.Native.Nat.{◌-◌}
 use native.Mathlib.Omega.{arith}
 use lib.ListN.{length}
 use Rattle.octet.proofs.Lists.{splice-length}

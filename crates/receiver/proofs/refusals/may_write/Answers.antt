@@ -1,7 +1,7 @@
 -- `receiver::refusals::may_write` meets its contract: the tests one by one.
 use mathlib.Core.Bool.{true, false}
 use mathlib.Core.Path.{refl, sym, ◌∙◌}
-use borrow.Author.Tests.{not-false, lt-ltb, le-ltb}
+use borrow.Author.Tests.{lt-ltb, le-ltb}
 use Rattle.receiver.proofs.Refusing.{leave-short, leave-by}
 use Rattle.receiver.proofs.refusals.may_write.Goals as goal
 
