@@ -7,6 +7,8 @@ use Rattle.answer.specs.contracts.Outcome.number as outcome-number
 use Rattle.answer.specs.contracts.Refusal.number as refusal-number
 use Rattle.answer.specs.contracts.Setup.ours as ours
 use Rattle.answer.specs.contracts.Setup.theirs as theirs
+use Rattle.answer.specs.contracts.Venue.id as venue-id
+use Rattle.answer.specs.contracts.Venue.is_emerald as is-emerald
 
 pub fault-one : Once of.ended (λ M 𝓤. of.clauses) (λ κs r e. r)
 fault-one M 𝓤 𝓛 mem run κs a g = (_, λ r e. alone 𝓤)
@@ -28,3 +30,9 @@ ours-one M 𝓤 𝓛 mem run κs a g = (_, λ r e. alone 𝓤)
 
 pub theirs-one : Once theirs.ended (λ M 𝓤. theirs.clauses) (λ κs r e. r)
 theirs-one M 𝓤 𝓛 mem run κs a g = (_, λ r e. alone 𝓤)
+
+pub venue-id-one : Once venue-id.ended (λ M 𝓤. venue-id.clauses) (λ κs r e. r)
+venue-id-one M 𝓤 𝓛 mem run κs a g = (_, λ r e. alone 𝓤)
+
+pub is-emerald-one : Once is-emerald.ended (λ M 𝓤. is-emerald.clauses) (λ κs r e. r)
+is-emerald-one M 𝓤 𝓛 mem run κs a g = (_, λ r e. alone 𝓤)

@@ -7,6 +7,7 @@ pub mod tags;
 
 ghost use Rattle.std.specs.Prelude.{◌≡◌};
 ghost use Rattle.answer.specs.Numbers.{fault, counted, phase_number, refusal_number, outcome_number};
+ghost use Rattle.answer.specs.Setup.{id_with, venue_id, is_emerald};
 
 // "`|` below is byte 1".
 pub const BAR: u8 = 1;
@@ -31,6 +32,45 @@ pub const MOST_CONTRACTS: u32 = 999_999;
 pub struct Id {
     pub bytes: [u8; 16],
     pub len: usize,
+}
+
+// The exchanges that have such a drop.
+#[derive(Clone, Copy)]
+pub enum Venue {
+    Sapphire,
+    Emerald,
+}
+
+// "the exchange's ID is EMLD where Sapphire's is SPHR".
+const SAPPHIRE: Id = Id {
+    bytes: *b"SPHR\0\0\0\0\0\0\0\0\0\0\0\0",
+    len: 4,
+};
+
+const EMERALD: Id = Id {
+    bytes: *b"EMLD\0\0\0\0\0\0\0\0\0\0\0\0",
+    len: 4,
+};
+
+impl Venue {
+    // The exchange's agreed ID.
+    pub fn id(self) -> Id
+        ensures { result ≡ id_with (venue_id self) }
+    {
+        match self {
+            Venue::Sapphire => SAPPHIRE,
+            Venue::Emerald => EMERALD,
+        }
+    }
+
+    pub fn is_emerald(self) -> bool
+        ensures { result ≡ is_emerald self }
+    {
+        match self {
+            Venue::Sapphire => false,
+            Venue::Emerald => true,
+        }
+    }
 }
 
 // What a receiver is set up with. It is asked by its methods: where an answer comes from is nothing to those who ask.

@@ -76,6 +76,23 @@ pub const TIME: u32 = 60;
 // A report that has it is set aside.
 pub const MULTI_LEG: u32 = 442;
 
+// ---- of an Emerald report: what it says of its option
+
+// Whose order it was: a customer's, a firm's, a market maker's.
+pub const ORIGIN: u32 = 204;
+
+// The month and the day of its expiry.
+pub const EXPIRY_MONTH: u32 = 200;
+
+pub const EXPIRY_DAY: u32 = 205;
+
+pub const PUT_OR_CALL: u32 = 201;
+
+pub const STRIKE: u32 = 202;
+
+// A leg that is a stock has it.
+pub const STOCK_LEG: u32 = 461;
+
 // ---- of a Trade Cancel/Correct
 
 // 20: a new manual trade, a cancel or a correction.

@@ -1,14 +1,15 @@
 -- Days and clocks: how large their numbers are.
 use mathlib.Core.Path.{◌≡◌}
-use mathlib.Core.Bool.{true, ◌||◌, ◌&&◌}
-use Prim.Native.Nat.{ℕ, ◌≤◌}
+use mathlib.Core.Bool.{true, false, ◌||◌, ◌&&◌}
+use mathlib.Core.Option.{Option, none, some}
+use Prim.Native.Nat.{ℕ, ◌/◌, ◌%◌, ◌≤◌, ◌<◌}
 use native.Mathlib.Omega.{arith}
 use lib.Dec.{leb, eqb}
 use borrow.Author.Tests.{leb-true}
 use Rattle.octet.specs.Bytes.{between}
-use Rattle.octet.proofs.Cases.{of-cond, and_both}
-use Rattle.octet.proofs.Lists.{between-high}
-use Rattle.value.specs.Value.{leap, days_in, is_day, is_clock}
+use Rattle.octet.proofs.Cases.{not-true-false, of-cond, and_both}
+use Rattle.octet.proofs.Lists.{is-above, between-high}
+use Rattle.value.specs.Value.{leap, days_in, is_day, day_fits, is_clock}
 
 pub days-most : (y m : ℕ) → days_in y m ≤ 31
 unfolding days_in
@@ -22,6 +23,12 @@ unfolding is_day
 day-below y m d e =
     let p = and_both (between 1 12 m) (between 1 (days_in y m) d) e in
     (between-high 1 12 m p.0, omega (arith, between-high 1 (days_in y m) d p.1, days-most y m))
+
+-- no month has a day after its 31st
+pub no-day : (month : Option ℕ) (d : ℕ) → 31 < d → day_fits month d ≡ false
+unfolding day_fits
+no-day none d h = is-above 1 31 d h
+no-day (some month) d h = not-true-false (is_day (month / 100) (month % 100) d) (λ e. omega (arith, (day-below (month / 100) (month % 100) d e).1))
 
 pub clock-below : (h m s : ℕ) → is_clock h m s ≡ true → (h ≤ 23) × (m ≤ 59) × (s ≤ 59)
 clock-below h m s e =

@@ -1,6 +1,8 @@
 -- Numbers: what reading makes of the digits at the front, what it means that a number was read, and which values are numbers.
 --     number-good, number-bad, number-out     what each answer means
 --     numeral, numeral-formed     a value is well formed as a number exactly where it is of digits only, 1 to 9
+--     exactly, exactly-formed     and as one of exactly n digits exactly where it is of digits only, so many
+--     exactly-long, exactly-other, exactly-short, exactly-good     what reading makes of them
 --     number_read_lem     a numeral in range is read
 --     number-or, number-or-small     the number of a well-formed value, and its bound
 use mathlib.Core.Path.{◌≡◌, refl, sym, ap, ◌∙◌}
@@ -20,9 +22,10 @@ use Rattle.octet.proofs.Lists.{is-between, is_below, is-above, between-low, betw
 use Rattle.text.specs.Decimal.{digits, digit_run, digits_taken, digits_at_front}
 use Rattle.text.specs.declared.Digits.{Digits}
 use Rattle.text.proofs.ReadLaws.{digits-below, front-in}
-use Rattle.value.specs.Value.{well_formed, bad_number, number_or}
+use Rattle.value.specs.Value.{well_formed, bad_number, bad_digits, number_or}
 use Rattle.value.specs.Place.{Numeral, NumberForm}
-use Rattle.value.specs.Readers.{numbered, number_read}
+use Rattle.value.specs.Readers.{checked, numbered, number_read, exactly_checked}
+use Rattle.value.specs.declared.Check.TheVariants.{Good, BadForm}
 use Rattle.value.specs.declared.Number.{Number}
 use Rattle.value.specs.declared.Number.TheVariants as number
 use Rattle.value.proofs.Forms.{form-short, form-part, form-well, form-good}
@@ -82,23 +85,56 @@ module _ (v : List ℕ) (d : Digits) (e : d ≡ digits_at_front 9 v) where
     pub number-above : (low high : ℕ) → high < d.value → number.OutOfRange ≡ number_read low high v
     number-above low high a = sym (by-range low high ∙ cond-false _ _ _ (is-above low high d.value a))
 
--- ---- which values are numbers
+-- ---- which values are digits only, so many
+module _ (low high : ℕ) (v : List ℕ) where
+  only-digits : well_formed v (min high (digit_run v)) (leb low (length v)) ≡ none → Numeral low high v
+  only-digits e =
+      let p = form-good v (min high (digit_run v)) (leb low (length v)) e in
+      let h : digit_run v ≡ length v = omega (arith, p.0, run-most 48 57 v) in
+      record {
+        only = sym (run-is-all 48 57 v) ∙ eq-eqb _ _ h;
+        least = leb-true low (length v) p.1;
+        most = omega (arith, p.0);
+      }
+
+  digits-only : Numeral low high v → well_formed v (min high (digit_run v)) (leb low (length v)) ≡ none
+  digits-only n =
+      let h : min high (digit_run v) ≡ length v = omega (arith, run-all 48 57 v n.only, n.most) in
+      form-well v (min high (digit_run v)) (leb low (length v)) h (le-leb low (length v) n.least)
+
 pub numeral : (v : List ℕ) → bad_number v ≡ none → NumberForm v
 unfolding bad_number
-numeral v e =
-    let p = form-good v (min 9 (digit_run v)) (leb 1 (length v)) e in
-    let h : digit_run v ≡ length v = omega (arith, p.0, run-most 48 57 v) in
-    record {
-      only = sym (run-is-all 48 57 v) ∙ eq-eqb _ _ h;
-      least = leb-true 1 (length v) p.1;
-      most = omega (arith, p.0);
-    }
+numeral v e = only-digits 1 9 v e
 
 pub numeral-formed : (v : List ℕ) → NumberForm v → bad_number v ≡ none
 unfolding bad_number
-numeral-formed v n =
-    let h : min 9 (digit_run v) ≡ length v = omega (arith, run-all 48 57 v n.only, n.most) in
-    form-well v (min 9 (digit_run v)) (leb 1 (length v)) h (le-leb 1 (length v) n.least)
+numeral-formed v n = digits-only 1 9 v n
+
+pub exactly : (n : ℕ) (v : List ℕ) → bad_digits n v ≡ none → Numeral n n v
+unfolding bad_digits
+exactly n v e = only-digits n n v e
+
+pub exactly-formed : (n : ℕ) (v : List ℕ) → Numeral n n v → bad_digits n v ≡ none
+unfolding bad_digits
+exactly-formed n v d = digits-only n n v d
+
+-- ---- exactly n digits, where r digits stand at the front
+module _ (n : ℕ) (v : List ℕ) (r : ℕ) (e : r ≡ digit_run v) where
+  exactly-by : (good : ℕ) (form : Option ℕ) → min n r ≡ good → well_formed v good (leb n (length v)) ≡ form → checked form true ≡ exactly_checked n v
+  unfolding exactly_checked bad_digits
+  exactly-by good form h f = sym (ap (λ (k : ℕ). checked (well_formed v k (leb n (length v))) true) (ap (min n) (sym e) ∙ h) ∙ ap (λ (o : Option ℕ). checked o true) f)
+
+  pub exactly-long : n < r → BadForm n ≡ exactly_checked n v
+  exactly-long h = exactly-by n (some n) (omega arith) (form-short v n (leb n (length v)) (λ k. omega (arith, run-most 48 57 v)))
+
+  pub exactly-other : r ≤ n → (r ≡ length v → ⊥) → BadForm r ≡ exactly_checked n v
+  exactly-other h k = exactly-by r (some r) (omega arith) (form-short v r (leb n (length v)) k)
+
+  pub exactly-short : r ≡ length v → r < n → BadForm r ≡ exactly_checked n v
+  exactly-short k h = exactly-by r (some r) (omega arith) (form-part v r (leb n (length v)) (lt-leb n (length v) (omega arith)))
+
+  pub exactly-good : r ≤ n → r ≡ length v → n ≤ r → Good ≡ exactly_checked n v
+  exactly-good h k l = exactly-by r none (omega arith) (form-well v r (leb n (length v)) k (le-leb n (length v) (omega arith)))
 
 pub numeral-small : (v : List ℕ) → NumberForm v → digits v ≤ 999999999
 numeral-small v n =

@@ -1,8 +1,8 @@
 -- Where a value fails its form.
 --     one_place, missing     over any form: the place is one, and it is the value's length exactly where bytes are missing
 --     reader-places     a reader says that place: which facts it takes
---     number-places, price-places, time-places, graph-places     the four forms' tests say it
---     read-number-places, read-price-places, read-time-places, read-graph-places     and so do the answers of the four readers
+--     number-places, exactly-places, price-places, time-places, graph-places     the five forms' tests say it
+--     read-number-places, read-exactly-places, read-price-places, read-time-places, read-graph-places     and so do the answers of the five readers
 use mathlib.Core.Path.{◌≡◌, refl, sym, ap, ◌∙◌, subst}
 use mathlib.Core.Logic.{◌↔◌, inl, inr, ⊎_elim}
 use mathlib.Core.List.{List, [], ◌∷◌, ◌++◌, append-nil, append_assoc}
@@ -10,20 +10,21 @@ use mathlib.Core.Option.{Option, none, some}
 use mathlib.Core.Bool.{Bool, true, false}
 use Prim.Native.Nat.{ℕ, suc, ◌+◌, ◌-◌, ◌≤◌, ◌<◌, min}
 use native.Mathlib.Omega.{arith}
-use lib.ListN.{length, take, drop, length-append, length-drop, take-append-drop}
+use lib.ListN.{length, take, drop, replicate, length-append, length-replicate, length-drop, take-append-drop}
 use lib.Seq.{take-length, length-take-le, take_at, take-append-le, take-append-add}
 use lib.Dec.{leb}
 use Rattle.octet.specs.Bytes.{bytes_of, between, all_in, run_in, part}
-use Rattle.octet.proofs.Cases.{le-or-lt, of-cond, and_left}
+use Rattle.octet.proofs.Cases.{le-or-lt, of-cond, and_left, and-make}
 use Rattle.octet.proofs.Lists.{all_in-append, all_in-take, run-most, run_in_lem, run-reach}
+use Rattle.octet.proofs.Padded.{all_in-replicate}
 use Rattle.text.specs.Decimal.{digits, digit_run}
 use Rattle.text.proofs.ReadLaws.{run-append}
-use Rattle.value.specs.Value.{well_formed, bad_number, bad_graph, wholes, pointed, decimals, bad_price, like_run, time_pattern, time_long, bad_time, time_fits}
+use Rattle.value.specs.Value.{well_formed, bad_number, bad_digits, bad_graph, wholes, pointed, decimals, bad_price, like_run, time_pattern, time_long, bad_time, time_fits}
 use Rattle.value.specs.Place.{Begins, FailsAt, Places, Numeral, NumberForm, PriceForm, like_all, TimeForm, GraphForm}
-use Rattle.value.specs.Readers.{check_place, number_place, price_place, checked, numbered, priced, number_read, price_front, price_read, time_checked, graph_checked}
+use Rattle.value.specs.Readers.{check_place, number_place, price_place, checked, numbered, priced, number_read, exactly_checked, price_front, price_read, time_checked, graph_checked}
 use Rattle.value.proofs.Forms.{form-well, form-good, form-at}
 use Rattle.value.proofs.Like.{like-most, like-rest, like-reach, like-run, like-size, like-whole}
-use Rattle.value.proofs.Numbers.{front-numeral, numeral, numeral-formed}
+use Rattle.value.proofs.Numbers.{front-numeral, numeral, numeral-formed, exactly, exactly-formed}
 use Rattle.value.proofs.Prices.{point-inside, by_front, whole_part, after-point, point-part, point-cut, wholes-numeral, decimals-numeral, price-form, price-well}
 use Rattle.value.proofs.Times.{time-lengths}
 use Rattle.value.proofs.Texts.{graph-only, graph-formed}
@@ -113,6 +114,28 @@ number-places =
     (λ v. omega (arith, run-most 48 57 v))
     (λ v. digits-begin 9 _ (omega arith) (front-numeral 0 9 (min 9 (digit_run v)) v (omega arith) (omega arith) (omega arith)))
     (λ v n h b. digits-reach 1 9 v n h b)
+
+-- digits go on with zeros
+zeros-begin : (n : ℕ) (b : List ℕ) → Numeral 0 n b → Begins (Numeral n n) b
+zeros-begin n b d =
+    let z : List ℕ = replicate (n - length b) 48 in
+    let l : length (b ++ z) ≡ n = omega (arith, length-append b z, length-replicate {A = ℕ} (n - length b) 48, d.most) in (
+      z,
+      record {
+        only = all_in-append 48 57 b z ∙ and-make (all_in 48 57 b) (all_in 48 57 z) d.only (all_in-replicate 48 57 (n - length b) 48 refl);
+        least = omega arith;
+        most = omega arith;
+      },
+    )
+
+pub exactly-places : (n : ℕ) → Places (Numeral n n) (bad_digits n)
+unfolding bad_digits
+exactly-places n =
+    reader-places (Numeral n n) (bad_digits n) (λ v. min n (digit_run v)) (λ v. leb n (length v)) (λ v. refl)
+    (λ v. (exactly n v, exactly-formed n v))
+    (λ v. omega (arith, run-most 48 57 v))
+    (λ v. zeros-begin n _ (front-numeral 0 n (min n (digit_run v)) v (omega arith) (omega arith) (omega arith)))
+    (λ v m h b. digits-reach n n v m h b)
 
 -- ---- prices
 
@@ -255,6 +278,10 @@ pub read-number-places : (low high : ℕ) → Places NumberForm (λ v. number_pl
 unfolding number_read
 read-number-places low high =
     same-places NumberForm bad_number _ (λ v. numbered-place v (bad_number v) (between low high (digits v))) number-places
+
+pub read-exactly-places : (n : ℕ) → Places (Numeral n n) (λ v. check_place (exactly_checked n v))
+unfolding exactly_checked
+read-exactly-places n = same-places (Numeral n n) (bad_digits n) _ (λ v. checked-place (bad_digits n v) true) (exactly-places n)
 
 pub read-price-places : Places PriceForm (λ v. price_place (price_read v))
 unfolding price_read

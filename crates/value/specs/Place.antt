@@ -1,4 +1,4 @@
--- Where a value fails its form, over any form; and the four forms by the paper's sentences, apart from how they are read.
+-- Where a value fails its form, over any form; and the five forms by the papers' sentences, apart from how they are read.
 use Rattle.std.specs.Prelude.{ℕ, ◌≤◌, ◌<◌, ◌≡◌, ◌⊎◌, ◌↔◌, List, [], ◌∷◌, ◌++◌, Bool, true, false, ◌&&◌, length, take}
 use Rattle.std.proofs.Math.Option.{Option, none, some}
 use Rattle.octet.specs.Bytes.{bytes_of, all_in}
@@ -34,6 +34,8 @@ pub record Numeral (low high : ℕ) (v : List ℕ) : Type 0 where
 -- "Numbers have digits only, 1 to 9"
 abbrev pub NumberForm : List ℕ → Type 0
 NumberForm v = Numeral 1 9 v
+
+-- "Format: YYYYMM", "Format: DD": exactly n digits are Numeral n n
 
 -- "A price is 1 to 7 digits, or those, a point and 1 to 4 digits"
 pub record Pointed (v : List ℕ) : Type 0 where
