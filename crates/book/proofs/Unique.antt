@@ -8,7 +8,7 @@ use Rattle.book.specs.contracts.rows.day_with as day-with
 use Rattle.book.specs.contracts.rows.head_of as head_of
 use Rattle.book.specs.contracts.rows.row_in as row_in
 use Rattle.book.specs.contracts.rows.take_off as take-off
-use Rattle.book.specs.contracts.rows.waits_in as Waits-in
+use Rattle.book.specs.contracts.rows.waits_in as waits-in
 use Rattle.book.specs.contracts.slot_at as slot_at
 
 pub admit-one : Once admit.ended (λ M 𝓤. admit.clauses) (λ κs r e. r)
@@ -23,7 +23,7 @@ take-off-one M 𝓤 𝓛 mem run κs a g = (_, λ r e. paired 𝓤)
 pub head-of-one : Once head_of.ended (λ M 𝓤. head_of.clauses) (λ κs r e. r.now)
 head-of-one M 𝓤 𝓛 mem run κs a g = (_, λ r e. alone 𝓤)
 
-pub waits-in-one : Once Waits-in.ended (λ M 𝓤. Waits-in.clauses) (λ κs r e. r)
+pub waits-in-one : Once waits-in.ended (λ M 𝓤. waits-in.clauses) (λ κs r e. r)
 waits-in-one M 𝓤 𝓛 mem run κs a g = (_, λ r e. alone 𝓤)
 
 pub slot-at-one : Once slot_at.ended (λ M 𝓤. slot_at.clauses) (λ κs r e. r.now)

@@ -325,7 +325,7 @@ pub fn line_least(setup: Setup) -> usize
 pub fn write_line(n: u32, s: &[u8], line: &mut [u8]) -> usize
     ensures line_after { line.new ≡ splice line.old 0 (line_of n s.now) }
     ensures value { result ≡ cond (fits_at line.old 0 (line_of n s.now)) (length (line_of n s.now)) 0 }
-    ensures s_len_bound { length (line_of n s.now) ≤ line_room }
+    ensures line_bound { length (line_of n s.now) ≤ line_room }
 {
     line_text(n, s).place(line, 0)
 }

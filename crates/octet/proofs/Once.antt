@@ -1,10 +1,10 @@
 -- No second answer and no second lent byte: what that means of a function's own contract.
--- The prover makes a module of each function f of a crate (`Rattle.CRATE.proofs.PATH.f`). In it `ended` is the signature, and `clauses` is the contract as it stands in
--- the source. `Once f.ended (λ M 𝓤. f.clauses 𝓤) d` speaks of this very contract and not of a copy: where an `ensures` is made weaker, it is weaker here, and the theorem
--- is not proved any more. So the two cannot drift apart.
+-- The prover makes a module of each function f of a crate (`Rattle.CRATE.specs.contracts.PATH.f`). In it `ended` is the signature, and `clauses` is the contract as it
+-- stands in the source. `Once f.ended (λ M 𝓤. f.clauses) d` speaks of this very contract and not of a copy: where an `ensures` is made weaker, it is weaker here, and the
+-- theorem is not proved any more. So the two cannot drift apart.
 --     T                        the function's signature: its lifetimes, its parameters, its result
 --     c                        its contract
---     M, 𝓤, H, A, mem, run     what a contract is read in, whatever it is: resources, their algebra, a heap, lifetimes and borrows, what memory holds, what a routine does
+--     M, 𝓤, 𝓛, mem, run        what a contract is read in, whatever it is: resources, their algebra, a heap with lifetimes and borrows, what memory holds, what a routine does
 --     κs, a, g                 what is handed in: the lifetimes, the arguments with what they lend, and the contract's ghost variables, of which no public function has one
 --     r, e                     what is handed out: the result, and the parameters at exit, each in its place: e.0, e.1.0, e.1.1.0, ..
 --     d                        all that a caller gets of these: the result (`r`; `r.now` where it lends something) and what each `&mut` parameter lends at exit (`e.0.now`),

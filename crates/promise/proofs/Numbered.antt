@@ -58,5 +58,5 @@ row9 false = refl
 pub numbered : Numbered
 numbered = record {
   calls = calls;
-  setting_up = λ ours theirs. ap (λ (l : Leave). column_no (withheld l)) (setting_up_lem ours theirs) ∙ row9 (bad_id ours || bad_id theirs);
+  set_up = λ ours theirs. ap (λ (l : Leave). column_no (withheld l)) (setting_up_lem ours theirs) ∙ row9 (bad_id ours || bad_id theirs);
 }

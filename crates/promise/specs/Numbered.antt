@@ -36,4 +36,4 @@ withheld (leave.Refused why) = some why
 -- rows 1 to 8, of any call; and row 9, of setting up
 pub record Numbered : Type 0 where
   pub calls : (setup : Setup) (st : State) (b : Lent) (t : Tally) (w : What) → column_no (refused_with (call setup st b t w).did.answer) ≡ first_row 1 (holding setup st b w)
-  pub setting_up : (ours theirs : List ℕ) → column_no (withheld (setting_up ours theirs).leave) ≡ first_row 9 ((bad_id ours || bad_id theirs) ∷ [])
+  pub set_up : (ours theirs : List ℕ) → column_no (withheld (setting_up ours theirs).leave) ≡ first_row 9 ((bad_id ours || bad_id theirs) ∷ [])

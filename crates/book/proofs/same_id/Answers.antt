@@ -19,6 +19,6 @@ pub returns : goal.returns
 returns c =
     let a = c.args in
     ap₂ eqb c.word_at-5.ensures c.word_at-6.ensures
-    ∙ words_same a.x.now a.y.now (λ i. omega (arith, c.shared_slice_known-1.given i)) (λ i. omega (arith, c.shared_slice_known-2-1.given i)) c.if-x-ne-ID.false c.if-y-ne-ID.false
+    ∙ words_same a.x.now a.y.now (λ i. omega (arith, c.type_inv.x i)) (λ i. omega (arith, c.type_inv.y i)) c.if-x-ne-ID.false c.if-y-ne-ID.false
     (sym c.word_at.ensures ∙ c.if-word_at.false ∙ c.word_at-2.ensures)
     (sym c.word_at-3.ensures ∙ c.if-word_at-2.false ∙ c.word_at-4.ensures)

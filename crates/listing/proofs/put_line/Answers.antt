@@ -11,5 +11,5 @@ returns c =
     let a = c.args in
     let w = c.write_line-len.ensures in
     let l = line_of a.n a.slot.now in
-    let len = line-length (replicate 128 0) l _ w.s_len_bound w.value in
-    (c.copy_into.ensures.1 ∙ ap (splice a.page.now a.at) (written_back (replicate 128 0) l _ _ _ w.s_len_bound w.line_after len c.part.ensures), len)
+    let len = line-length (replicate 128 0) l _ w.line_bound w.value in
+    (c.copy_into.ensures.1 ∙ ap (splice a.page.now a.at) (written_back (replicate 128 0) l _ _ _ w.line_bound w.line_after len c.part.ensures), len)

@@ -14,10 +14,10 @@ pub overflow_mul-v : goal.overflow_mul-v
 overflow_mul-v c = omega (arith, below-pow 256 7 {i = c.loop-i.i} (search rules) c.loop-i.invariant.2 (omega arith))
 
 pub overflow_cast-v : goal.overflow_cast-v
-overflow_cast-v c = omega (arith, c.shared_slice_known-1.given c.loop-i.i)
+overflow_cast-v c = omega (arith, c.type_inv.s c.loop-i.i)
 
 pub overflow_add-v : goal.overflow_add-v
-overflow_add-v c = omega (arith, below-pow 256 7 {i = c.loop-i.i} (search rules) c.loop-i.invariant.2 (omega arith), c.shared_slice_known-1.given c.loop-i.i)
+overflow_add-v c = omega (arith, below-pow 256 7 {i = c.loop-i.i} (search rules) c.loop-i.invariant.2 (omega arith), c.type_inv.s c.loop-i.i)
 
 pub loop-i-preserved : goal.loop-i-preserved
 loop-i-preserved c =
@@ -26,7 +26,7 @@ loop-i-preserved c =
       search rules,
       ap (λ (d : ℕ). value_of 256 0 (c.loop-i.v * 256 + d) (drop (c.loop-i.i + 1) s)) (sym (sub-zero (get_or s c.loop-i.i 0)))
           ∙ sym (value-go 256 0 c.loop-i.v s c.loop-i.i h) ∙ c.loop-i.invariant.1,
-      more-fits 256 c.loop-i.i c.loop-i.invariant.2 (omega (arith, c.shared_slice_known-1.given c.loop-i.i)),
+      more-fits 256 c.loop-i.i c.loop-i.invariant.2 (omega (arith, c.type_inv.s c.loop-i.i)),
     )
 
 pub returns : goal.returns

@@ -28,5 +28,5 @@ returns c =
     let enough : line_least a.setup ≤ length a.line.now = omega (arith, c.line_least.ensures, c.if-line-line_least.false) in
     let next : a.self.offered < a.self.last = omega (arith, c.if-self.false) in
     let written = c.write_line-len.ensures in
-    let g = offer-next a.setup a.self a.book.now a.line.now _ _ _ enough next c.slot_at.ensures written.line_after written.value written.s_len_bound in
+    let g = offer-next a.setup a.self a.book.now a.line.now _ _ _ enough next c.slot_at.ensures written.line_after written.value written.line_bound in
     (ap (λ (m : Marks). offer.Given m c.write_line-len.result) c.offered_up_to.ensures ∙ g.0, g.1)
