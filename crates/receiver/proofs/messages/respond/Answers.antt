@@ -15,20 +15,20 @@ decide-requires c = c.index_into-scan.ensures
 pub slice_bounds-keep-end : goal.slice_bounds-keep-end
 slice_bounds-keep-end c =
     let a = c.args in
-    sym (answered-keeps a.setup a.st a.book.now a.time.now a.len (pieces_of a.body.now) c.decide.ensures _ _ _ (sym c.in-Keep.is)).wide
+    sym (answered-keeps a.setup a.st a.book.now a.time.now a.len (pieces_of a.body.now) c.decide.ensures _ _ _ (sym c.in-Ok-Keep.is)).wide
 
 pub keep-requires : goal.keep-requires
 keep-requires c =
     let a = c.args in
-    (answered-keeps a.setup a.st a.book.now a.time.now a.len (pieces_of a.body.now) c.decide.ensures _ _ _ (sym c.in-Keep.is), c.requires.1)
+    (answered-keeps a.setup a.st a.book.now a.time.now a.len (pieces_of a.body.now) c.decide.ensures _ _ _ (sym c.in-Ok-Keep.is), c.requires.1)
 
-pub returns-in-Refuse : goal.returns-in-Refuse
-returns-in-Refuse c =
+pub returns-in-Err : goal.returns-in-Err
+returns-in-Err c =
     let a = c.args in
-    answered-refused a.setup a.st a.book.now a.time.now a.len (pieces_of a.body.now) c.decide.ensures _ (sym c.in-Refuse.is) c.plain.ensures
+    answered-refused a.setup a.st a.book.now a.time.now a.len (pieces_of a.body.now) c.decide.ensures _ (sym c.in-Err.is) c.plain.ensures
 
-pub returns-in-Say : goal.returns-in-Say
-returns-in-Say c =
+pub returns-in-Ok-Say : goal.returns-in-Ok-Say
+returns-in-Ok-Say c =
     let a = c.args in
     let index-into = c.index_into-scan in
     let decide = c.decide in
@@ -37,13 +37,13 @@ returns-in-Say c =
     let look = look_of (pieces_of a.body.now) in
     let word =
     value-at.ensures ∙ ap (λ (x : Look). x.text word-tag.result) (look-by a.body.now index-into.ensures.1)
-    ∙ ap (λ (t : ℕ). (at_listed look).text t) word-tag.ensures ∙ word-listed look c.in-Say.j.reply ∙ ap (λ (t : ℕ). look.text t) (sym word-tag.ensures) in
-    answered-said a.setup a.st a.book.now a.time.now a.len (pieces_of a.body.now) decide.ensures _ (sym c.in-Say.is) word word-tag.ensures
+    ∙ ap (λ (t : ℕ). (at_listed look).text t) word-tag.ensures ∙ word-listed look c.in-Ok-Say.j.reply ∙ ap (λ (t : ℕ). look.text t) (sym word-tag.ensures) in
+    answered-said a.setup a.st a.book.now a.time.now a.len (pieces_of a.body.now) decide.ensures _ (sym c.in-Ok-Say.is) word word-tag.ensures
     c.settle.ensures
 
-pub returns-in-Keep : goal.returns-in-Keep
-returns-in-Keep c =
+pub returns-in-Ok-Keep : goal.returns-in-Ok-Keep
+returns-in-Ok-Keep c =
     let a = c.args in
     let decide = c.decide in
-    answered-kept a.setup a.st a.book.now a.time.now a.len (pieces_of a.body.now) decide.ensures _ _ _ (sym c.in-Keep.is)
+    answered-kept a.setup a.st a.book.now a.time.now a.len (pieces_of a.body.now) decide.ensures _ _ _ (sym c.in-Ok-Keep.is)
     (c.keep.ensures a.reply.now)
