@@ -13,7 +13,7 @@ ghost use Rattle.answer.specs.Setup.{id_with, venue_id, is_emerald};
 pub const BAR: u8 = 1;
 
 // E, O and the counts are kept in four bytes, and what is counted stops at the largest number of these.
-pub const LARGEST: u32 = 4_294_967_295;
+pub const LARGEST: u32 = u32::MAX;
 
 // "Numbers have digits only, 1 to 9": the largest of them. E, O and tag 36 stop there.
 pub const NINE_DIGITS: u32 = 999_999_999;
@@ -28,14 +28,14 @@ pub const LAST_TO_SEND: u32 = NINE_DIGITS - 2;
 pub const MOST_CONTRACTS: u32 = 999_999;
 
 // An agreed ID: the first len of bytes.
-#[derive(Clone, Copy)]
+#[derive(Clone, Copy, PartialEq, Eq)]
 pub struct Id {
     pub bytes: [u8; 16],
     pub len: usize,
 }
 
 // The exchanges that have such a drop.
-#[derive(Clone, Copy)]
+#[derive(Clone, Copy, PartialEq, Eq)]
 pub enum Venue {
     Sapphire,
     Emerald,
@@ -54,6 +54,7 @@ const EMERALD: Id = Id {
 
 impl Venue {
     // The exchange's agreed ID.
+    #[tactic(auto, unfolding(crate::specs::Setup::id_with, octet::specs::Splice::splice))]
     pub fn id(self) -> Id
         ensures { result ≡ id_with (venue_id self) }
     {
@@ -66,15 +67,12 @@ impl Venue {
     pub fn is_emerald(self) -> bool
         ensures { result ≡ is_emerald self }
     {
-        match self {
-            Venue::Sapphire => false,
-            Venue::Emerald => true,
-        }
+        self == Venue::Emerald
     }
 }
 
 // What a receiver is set up with. It is asked by its methods: where an answer comes from is nothing to those who ask.
-#[derive(Clone, Copy)]
+#[derive(Clone, Copy, PartialEq, Eq)]
 pub struct Setup {
     pub ours: Id,
     pub theirs: Id,
@@ -94,7 +92,7 @@ impl Setup {
     }
 }
 
-#[derive(Clone, Copy)]
+#[derive(Clone, Copy, PartialEq, Eq)]
 pub enum Phase {
     Out,
     Sent,
@@ -108,18 +106,12 @@ impl Phase {
     pub fn number(self) -> u32
         ensures { result ≡ phase_number self }
     {
-        match self {
-            Phase::Out => 0,
-            Phase::Sent => 1,
-            Phase::In => 2,
-            Phase::Ended => 3,
-            Phase::Closing => 4,
-        }
+        self as u32
     }
 }
 
 // What a type of message is: A, 0, 1, 2, 4, 5, 8, UCC; 3 and j; any other.
-#[derive(Clone, Copy)]
+#[derive(Clone, Copy, PartialEq, Eq)]
 pub enum Kind {
     Logon,
     Heartbeat,
@@ -134,7 +126,7 @@ pub enum Kind {
 }
 
 // A Reject's reason, the tag that it names (0: none), and, of a bad form, how much of the value was well formed.
-#[derive(Clone, Copy)]
+#[derive(Clone, Copy, PartialEq, Eq)]
 pub struct Fault {
     pub reason: u32,
     pub tag: u32,
@@ -154,11 +146,11 @@ impl Fault {
 pub fn count_on(n: u32, k: u32) -> u32
     ensures { result ≡ counted n k }
 {
-    if LARGEST - n < k { LARGEST } else { n + k }
+    n.saturating_add(k)
 }
 
 // What became of a framed message.
-#[derive(Clone, Copy)]
+#[derive(Clone, Copy, PartialEq, Eq)]
 pub enum Outcome {
     Ended,
     Rejected(Fault),
@@ -188,11 +180,10 @@ impl Outcome {
             Outcome::Dropped => 4,
             Outcome::Gap => 5,
             Outcome::In => 6,
-            Outcome::Heard => 7,
+            Outcome::Heard | Outcome::Aside => 7,
             Outcome::Echoed => 8,
             Outcome::Filled => 9,
             Outcome::Moved(_) => 10,
-            Outcome::Aside => 7,
             Outcome::Already => 11,
             Outcome::Booked(_, _) => 12,
             Outcome::Entered(_) => 13,
@@ -201,7 +192,7 @@ impl Outcome {
 }
 
 // Why a call was refused.
-#[derive(Clone, Copy)]
+#[derive(Clone, Copy, PartialEq, Eq)]
 pub enum Refusal {
     ShortBuffer,
     BadTime,

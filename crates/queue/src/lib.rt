@@ -20,25 +20,11 @@ pub struct Marks {
     pub day: u32,
 }
 
-// What an offer answers: the marks after it and how long the line is; that there is no such slot; or a refusal.
+// An offer that is given: the marks after it, and how long the line is.
 #[derive(Clone, Copy)]
-pub enum Offer {
-    Given(Marks, usize),
-    Nothing,
-    Refused(Refusal),
-}
-
-#[derive(Clone, Copy)]
-pub enum Acknowledged {
-    Taken(Marks),
-    Already,
-    Refused(Refusal),
-}
-
-#[derive(Clone, Copy)]
-pub enum Day {
-    Fresh(Marks),
-    Refused(Refusal),
+pub struct Given {
+    pub marks: Marks,
+    pub len: usize,
 }
 
 impl Marks {
@@ -75,9 +61,8 @@ impl Marks {
         Marks {
             last: answer::count_on(self.last, 1),
             load,
-            acked: self.acked,
-            offered: self.offered,
             day,
+            ..self
         }
     }
 
@@ -85,43 +70,41 @@ impl Marks {
     fn offered_up_to(self, n: u32) -> Marks
         ensures { result ≡ offered_up_to n self }
     {
-        let load = self.load;
-        Marks {
-            last: self.last,
-            load,
-            acked: self.acked,
-            offered: n,
-            day: self.day,
-        }
+        Marks { offered: n, ..self }
     }
 
     fn acked_up_to(self, n: u32, day: u32) -> Marks
         ensures { result ≡ acked_up_to n day self }
     {
-        let load = self.load;
         Marks {
-            last: self.last,
-            load,
             acked: n,
-            offered: self.offered,
             day,
+            ..self
         }
     }
 
     // "Offer writes the fill after the last offered one as its line of the listing .., or, only where there is no such fill,
     // says none." Only the offered mark moves.
-    pub fn offer(self, setup: Setup, book: &[u8; BOOK], line: &mut [u8]) -> Offer
+    pub fn offer(
+        self,
+        setup: Setup,
+        book: &[u8; BOOK],
+        line: &mut [u8],
+    ) -> Result<Option<Given>, Refusal>
         ensures { Offers setup self book.now line.old result line.new }
     {
         if line.len() < fill::line_least(setup) {
-            return Offer::Refused(Refusal::ShortBuffer);
+            return Err(Refusal::ShortBuffer);
         }
         if self.last <= self.offered {
-            return Offer::Nothing;
+            return Ok(None);
         }
         let next = self.offered + 1;
         let len = fill::write_line(next, book::slot_at(book, self.offered as usize), line);
-        Offer::Given(self.offered_up_to(next), len)
+        Ok(Some(Given {
+            marks: self.offered_up_to(next),
+            len,
+        }))
     }
 
     // "Begin-again sets the offered mark back to the acknowledged one."
@@ -135,18 +118,17 @@ impl Marks {
     fn take_off(self, book: &mut [u8; BOOK], n: u32) -> u32
         ensures { TakesOff book.old self.last self.load.orders self.acked n self.day result book.new }
     {
-        let load = self.load;
         book::take_off(
             book,
             self.last as usize,
-            load.orders as usize,
+            self.load.orders as usize,
             self.acked as usize,
             n as usize,
             self.day,
         )
     }
 
-    // "Acknowledge n takes all fills up to n; n at or below the mark is already, no change." It is refused above the offered
+    // "Acknowledge n takes all fills up to n; n at or below the mark is already, no change", and so None. It is refused above the offered
     // mark. The slots stay where they are; their contracts wait no longer.
     pub fn acknowledge(
         self,
@@ -154,30 +136,30 @@ impl Marks {
         book: &mut [u8; BOOK],
         n: u32,
         note: &mut [u8],
-    ) -> Acknowledged
+    ) -> Result<Option<Marks>, Refusal>
         ensures { Acknowledges setup self n book.old note.old result book.new note.new }
     {
         if note.len() < note::note_least(setup) {
-            return Acknowledged::Refused(Refusal::ShortBuffer);
+            return Err(Refusal::ShortBuffer);
         }
         if self.offered < n {
-            return Acknowledged::Refused(Refusal::NotOffered);
+            return Err(Refusal::NotOffered);
         }
         if n <= self.acked {
-            return Acknowledged::Already;
+            return Ok(None);
         }
         note::put_acks(note, n);
         let day = self.take_off(book, n);
-        Acknowledged::Taken(self.acked_up_to(n, day))
+        Ok(Some(self.acked_up_to(n, day)))
     }
 
     // "New day (.. nothing waiting) gives the fresh, empty state." What is in the lent book is then of no slot.
-    pub fn new_day(self, book: &mut [u8; BOOK]) -> Day
+    pub fn new_day(self, book: &mut [u8; BOOK]) -> Result<Marks, Refusal>
         ensures { (result ≡ new_day self) × (book.new ≡ book.old) }
     {
         if self.acked < self.last {
-            return Day::Refused(Refusal::StillWaiting);
+            return Err(Refusal::StillWaiting);
         }
-        Day::Fresh(Marks::none())
+        Ok(Marks::none())
     }
 }

@@ -1,11 +1,11 @@
 -- "The tally of booked, already booked, rejected (a Reject written) and garbled .. brought up to date by each message call".
-use Rattle.std.specs.Prelude.{ℕ}
+use Rattle.std.specs.Prelude.{ℕ, Option, Some, None}
 use Rattle.answer.specs.Numbers.{counted}
 use Rattle.answer.specs.declared.Outcome.{Outcome}
 use Rattle.answer.specs.declared.Outcome.TheVariants as outcome
 use Rattle.tally.specs.declared.Tally.{Tally}
 use Rattle.tally.specs.declared.Which.{Which}
-use Rattle.tally.specs.declared.Which.TheVariants.{Booked, Already, Rejected, Garbled, Nothing}
+use Rattle.tally.specs.declared.Which.TheVariants.{Booked, Already, Rejected, Garbled}
 
 abbrev pub none_yet : Tally
 none_yet = record { booked = 0; already = 0; rejected = 0; garbled = 0 }
@@ -26,27 +26,31 @@ one_rejected t = record { booked = t.booked; already = t.already; rejected = up 
 abbrev pub one_garbled : Tally → Tally
 one_garbled t = record { booked = t.booked; already = t.already; rejected = t.rejected; garbled = up t.garbled }
 
--- which count a framed message raises, by what became of it: "rejected (a Reject written)", whether or not the session goes on. A correction that is entered is booked
-abbrev pub count_of : Outcome → Which
-count_of (outcome.Booked n step) = Booked
-count_of (outcome.Entered n) = Booked
-count_of outcome.Already = Already
-count_of (outcome.Rejected f) = Rejected
-count_of (outcome.RejectedEnded f) = Rejected
-count_of outcome.Ended = Nothing
-count_of outcome.Dropped = Nothing
-count_of outcome.Gap = Nothing
-count_of outcome.In = Nothing
-count_of outcome.Heard = Nothing
-count_of outcome.Echoed = Nothing
-count_of outcome.Filled = Nothing
-count_of (outcome.Moved n) = Nothing
-count_of outcome.Aside = Nothing
+-- one more of a count
+abbrev pub one : Which → Tally → Tally
+one Booked t = one_booked t
+one Already t = one_already t
+one Rejected t = one_rejected t
+one Garbled t = one_garbled t
 
--- the tally with that count one up
-abbrev pub tallied : Which → Tally → Tally
-tallied Booked t = one_booked t
-tallied Already t = one_already t
-tallied Rejected t = one_rejected t
-tallied Garbled t = one_garbled t
-tallied Nothing t = t
+-- which count a framed message raises, by what became of it: "rejected (a Reject written)", whether or not the session goes on. A correction that is entered is booked
+abbrev pub count_of : Outcome → Option Which
+count_of (outcome.Booked n step) = Some Booked
+count_of (outcome.Entered n) = Some Booked
+count_of outcome.Already = Some Already
+count_of (outcome.Rejected f) = Some Rejected
+count_of (outcome.RejectedEnded f) = Some Rejected
+count_of outcome.Ended = None
+count_of outcome.Dropped = None
+count_of outcome.Gap = None
+count_of outcome.In = None
+count_of outcome.Heard = None
+count_of outcome.Echoed = None
+count_of outcome.Filled = None
+count_of (outcome.Moved n) = None
+count_of outcome.Aside = None
+
+-- the tally with that count one up, where a message raises one
+abbrev pub tallied : Option Which → Tally → Tally
+tallied (Some which) t = one which t
+tallied None t = t

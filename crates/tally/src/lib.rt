@@ -2,11 +2,11 @@
 #![tactic(auto)]
 
 ghost use Rattle.std.specs.Prelude.{◌≡◌};
-ghost use Rattle.tally.specs.Tally.{up, none_yet, one_booked, one_already, one_rejected, one_garbled, count_of, tallied};
+ghost use Rattle.tally.specs.Tally.{up, none_yet, one, count_of, tallied};
 
 use answer::{Outcome, count_on};
 
-#[derive(Clone, Copy)]
+#[derive(Clone, Copy, PartialEq, Eq, Default)]
 pub struct Tally {
     pub booked: u32,
     pub already: u32,
@@ -14,17 +14,17 @@ pub struct Tally {
     pub garbled: u32,
 }
 
-// "booked, already booked, rejected (a Reject written) and garbled": the count that an answer raises, where it raises one.
-#[derive(Clone, Copy)]
+// "booked, already booked, rejected (a Reject written) and garbled": a count that an answer raises.
+#[derive(Clone, Copy, PartialEq, Eq)]
 pub enum Which {
     Booked,
     Already,
     Rejected,
     Garbled,
-    Nothing,
 }
 
 // One more; a count stops at its last number.
+#[tactic(auto, unfolding(crate::specs::Tally::up))]
 fn up(n: u32) -> u32
     ensures { result ≡ up n }
 {
@@ -35,115 +35,51 @@ impl Tally {
     pub fn new() -> Tally
         ensures { result ≡ none_yet }
     {
-        Tally {
-            booked: 0,
-            already: 0,
-            rejected: 0,
-            garbled: 0,
-        }
+        Tally::default()
     }
 
-    pub fn one_booked(self) -> Tally
-        ensures { result ≡ one_booked self }
+    // One more of that count.
+    pub fn one(self, which: Which) -> Tally
+        ensures { result ≡ one which self }
     {
-        Tally {
-            booked: up(self.booked),
-            already: self.already,
-            rejected: self.rejected,
-            garbled: self.garbled,
-        }
-    }
-
-    pub fn one_already(self) -> Tally
-        ensures { result ≡ one_already self }
-    {
-        Tally {
-            booked: self.booked,
-            already: up(self.already),
-            rejected: self.rejected,
-            garbled: self.garbled,
-        }
-    }
-
-    pub fn one_rejected(self) -> Tally
-        ensures { result ≡ one_rejected self }
-    {
-        Tally {
-            booked: self.booked,
-            already: self.already,
-            rejected: up(self.rejected),
-            garbled: self.garbled,
-        }
-    }
-
-    pub fn one_garbled(self) -> Tally
-        ensures { result ≡ one_garbled self }
-    {
-        Tally {
-            booked: self.booked,
-            already: self.already,
-            rejected: self.rejected,
-            garbled: up(self.garbled),
+        match which {
+            Which::Booked => Tally {
+                booked: up(self.booked),
+                ..self
+            },
+            Which::Already => Tally {
+                already: up(self.already),
+                ..self
+            },
+            Which::Rejected => Tally {
+                rejected: up(self.rejected),
+                ..self
+            },
+            Which::Garbled => Tally {
+                garbled: up(self.garbled),
+                ..self
+            },
         }
     }
 }
 
-// "lent by the caller and brought up to date": one thin function for each count, over the sister that takes the tally by value.
-pub fn count_booked(t: &mut Tally)
-    ensures { t.new ≡ one_booked t.old }
-{
-    *t = (*t).one_booked();
-}
-
-pub fn count_already(t: &mut Tally)
-    ensures { t.new ≡ one_already t.old }
-{
-    *t = (*t).one_already();
-}
-
-pub fn count_rejected(t: &mut Tally)
-    ensures { t.new ≡ one_rejected t.old }
-{
-    *t = (*t).one_rejected();
-}
-
-pub fn count_garbled(t: &mut Tally)
-    ensures { t.new ≡ one_garbled t.old }
-{
-    *t = (*t).one_garbled();
-}
-
-// Which count a framed message raises, by what became of it.
-pub fn count_of(outcome: Outcome) -> Which
+// Which count a framed message raises, by what became of it, where it raises one.
+pub fn count_of(outcome: Outcome) -> Option<Which>
     ensures { result ≡ count_of outcome }
 {
     match outcome {
-        Outcome::Booked(_, _) => Which::Booked,
-        Outcome::Entered(_) => Which::Booked,
-        Outcome::Already => Which::Already,
-        Outcome::Rejected(_) => Which::Rejected,
-        Outcome::RejectedEnded(_) => Which::Rejected,
-        Outcome::Ended => Which::Nothing,
-        Outcome::Dropped => Which::Nothing,
-        Outcome::Gap => Which::Nothing,
-        Outcome::In => Which::Nothing,
-        Outcome::Heard => Which::Nothing,
-        Outcome::Echoed => Which::Nothing,
-        Outcome::Filled => Which::Nothing,
-        Outcome::Moved(_) => Which::Nothing,
-        Outcome::Aside => Which::Nothing,
+        Outcome::Booked(_, _) | Outcome::Entered(_) => Some(Which::Booked),
+        Outcome::Already => Some(Which::Already),
+        Outcome::Rejected(_) | Outcome::RejectedEnded(_) => Some(Which::Rejected),
+        _ => None,
     }
 }
 
-// The lent tally, "brought up to date": the count that is raised, by its thin function.
-pub fn count(t: &mut Tally, which: Which)
+// "lent by the caller and brought up to date": one more of the count that is raised.
+pub fn count(t: &mut Tally, which: Option<Which>)
     ensures { t.new ≡ tallied which t.old }
 {
-    match which {
-        Which::Booked => count_booked(t),
-        Which::Already => count_already(t),
-        Which::Rejected => count_rejected(t),
-        Which::Garbled => count_garbled(t),
-        Which::Nothing => {}
+    if let Some(which) = which {
+        *t = t.one(which);
     }
 }

@@ -5,7 +5,7 @@
 --     front-digits     what is read from the front of digits that no digit follows
 --     front-in, front_fits     what is read is digits, and fits
 use Rattle.std.proofs.Common.{◌≡◌, ℕ, zero, suc, ◌+◌, ◌-◌, ◌*◌, ◌^◌, ◌<◌, ◌≤◌, min, Bool, true, false, List, [], ◌∷◌, ◌++◌, length, get_or, take, drop, sym, refl, ap, ◌∙◌, add-zero, zero-add, arith, lit<, length-take-le}
-use native.Mathlib.Nat.{sub-zero, min-zero, zero-min, suc-min-suc}
+use native.Mathlib.Nat.{min-zero, zero-min, suc-min-suc}
 use lib.Seq.{take-append_seam}
 use Rattle.octet.specs.Bytes.{between, all_in}
 use Rattle.octet.specs.Places.{value_of}
@@ -19,9 +19,11 @@ use Rattle.text.specs.declared.Digits.{Digits}
 abbrev pub so_far : ℕ → ℕ → ℕ → List ℕ → Digits
 so_far n v k t = record { len = n + min k (digit_run t); value = value_of 10 48 v (take (min k (digit_run t)) t) }
 
-pub start : (most : ℕ) (s : List ℕ) → digits_at_front most s ≡ so_far 0 0 (min most 9 - 0) s
+pub start : (most k : ℕ) (s : List ℕ) → k ≡ min (min most 9) (length s) → digits_at_front most s ≡ so_far 0 0 (k - 0) s
 unfolding digits_at_front
-start most s = simp (sub-zero, zero-add)
+start most k s h =
+    let e : min (k - 0) (digit_run s) ≡ digits_taken most s = omega (arith, run-most 48 57 s) in
+    rw (e, zero-add)
 
 none_left : (n v k : ℕ) (t : List ℕ) → min k (digit_run t) ≡ 0 → so_far n v k t ≡ record { len = n; value = v }
 none_left n v k t h = simp (h, add-zero)

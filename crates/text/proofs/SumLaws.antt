@@ -2,7 +2,7 @@
 --     sum-append, check-append     the sum of two texts, one after the other
 --     check-small     the sum modulo 256 is below 256
 --     sum_more     the sum of the front of a text, one byte further
-use Rattle.std.proofs.Common.{◌≡◌, ℕ, ◌+◌, ◌%◌, ◌<◌, List, [], ◌∷◌, ◌++◌, length, get_or, take, sym, ap, ◌∙◌, add_assoc, zero-add, add-one, arith, take-suc}
+use Rattle.std.proofs.Common.{◌≡◌, ℕ, ◌+◌, ◌%◌, ◌<◌, List, [], ◌∷◌, ◌++◌, length, get_or, take, sym, ap, ◌∙◌, add_assoc, zero-add, add-one, arith, take-suc, fold, add-zero}
 use Rattle.octet.specs.Bytes.{sum_of}
 use Rattle.text.specs.Decimal.{check_sum}
 
@@ -18,3 +18,13 @@ check-small s = omega arith
 
 pub sum_more : (s : List ℕ) (i : ℕ) → i < length s → check_sum (take (i + 1) s) ≡ (check_sum (take i s) + get_or s i 0) % 256
 sum_more s i h = rw (add-one, take-suc s i 0 h, sum-append) (omega arith)
+
+-- the sum taken byte by byte
+fold-from : (n : ℕ) (s : List ℕ) → fold (λ t b. (t + b) % 256) (n % 256) s ≡ (n + sum_of s) % 256
+fold-from n [] = rw add-zero
+fold-from n (b ∷ s) =
+    let e : (n % 256 + b) % 256 ≡ (n + b) % 256 = omega arith in
+    rw e (fold-from (n + b) s ∙ rw add_assoc)
+
+pub fold-check : (s : List ℕ) → fold (λ t b. (t + b) % 256) 0 s ≡ check_sum s
+fold-check s = fold-from 0 s ∙ rw zero-add

@@ -9,28 +9,27 @@ use Rattle.text.proofs.Decimals.{decimal-some, decimal-length, decimal-digits, d
 use Rattle.value.specs.Value.{bad_number, number_or, bad_price, price_in}
 use Rattle.value.specs.Place.{Numeral}
 use Rattle.value.specs.Readers.{number_read, price_read}
-use Rattle.value.specs.declared.Number.TheVariants as number
-use Rattle.value.specs.declared.Price.TheVariants as price
+use Rattle.std.specs.Prelude.{Ok}
 use Rattle.value.proofs.Numbers.{numeral-formed, number_read_lem, number-or}
 use Rattle.value.proofs.Prices.{price-formed, price-parts, price-read}
 
 -- a text of digits that writes n
-read_back : (low high n : ℕ) (v : List ℕ) → bad_number v ≡ none → digits v ≡ n → low ≤ n → n ≤ high → number_read low high v ≡ number.Value n
-read_back low high n v e f a b = number_read_lem low high v e (omega arith) (omega arith) ∙ ap number.Value f
+read_back : (low high n : ℕ) (v : List ℕ) → bad_number v ≡ none → digits v ≡ n → low ≤ n → n ≤ high → number_read low high v ≡ Ok n
+read_back low high n v e f a b = number_read_lem low high v e (omega arith) (omega arith) ∙ ap Ok f
 
 -- ---- numbers
 pub decimal-formed : (n : ℕ) → n < 10 ^ 9 → bad_number (decimal n) ≡ none
 decimal-formed n h =
     numeral-formed (decimal n) (record { only = decimal-digits n; least = decimal-some n; most = decimal-length 8 n h })
 
-pub number-back : (low high n : ℕ) → low ≤ n → n ≤ high → n < 10 ^ 9 → number_read low high (decimal n) ≡ number.Value n
+pub number-back : (low high n : ℕ) → low ≤ n → n ≤ high → n < 10 ^ 9 → number_read low high (decimal n) ≡ Ok n
 number-back low high n a b h = read_back low high n (decimal n) (decimal-formed n h) (decimal-back n) a b
 
 pub number-or-back : (n : ℕ) → n < 10 ^ 9 → number_or (decimal n) ≡ n
 number-or-back n h = number-or (decimal n) (decimal-formed n h) ∙ decimal-back n
 
 -- ---- "leading zeros read": numbers of a fixed width
-pub fixed-number-back : (low high width n : ℕ) → 1 ≤ width → width ≤ 9 → n < 10 ^ width → low ≤ n → n ≤ high → number_read low high (fixed width n) ≡ number.Value n
+pub fixed-number-back : (low high width n : ℕ) → 1 ≤ width → width ≤ 9 → n < 10 ^ width → low ≤ n → n ≤ high → number_read low high (fixed width n) ≡ Ok n
 fixed-number-back low high width n l m h a b =
     let e = numeral-formed (fixed width n) (record { only = fixed-digits width n; least = omega (arith, fixed-length width n); most = omega (arith, fixed-length width n) }) in
     read_back low high n (fixed width n) e (fixed_back width n h) a b
@@ -53,5 +52,5 @@ module _ (p : ℕ) (h : p < 10 ^ 11) where
       ∙ ap (λ (n : ℕ). digits (decimal (p / 10000)) * 10000 + digits (fixed 4 p) * 10 ^ (4 - n)) (fixed-length 4 p)
       ∙ omega (arith, parts-back p)
 
-  pub price-back : price_read (price_text p) ≡ price.Value p
-  price-back = price-read (price_text p) price-text-formed ∙ ap price.Value price-in-back
+  pub price-back : price_read (price_text p) ≡ Ok p
+  price-back = price-read (price_text p) price-text-formed ∙ ap Ok price-in-back

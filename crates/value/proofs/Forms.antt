@@ -12,7 +12,8 @@ use borrow.Author.Tests.{eq-eqb, ne_eqb, eqb-true}
 use Rattle.octet.proofs.Cases.{of-cond, cond-true, cond-false, and_both, and-make, and-no-left, and-no-right}
 use Rattle.value.specs.Value.{well_formed}
 use Rattle.value.specs.Readers.{checked}
-use Rattle.value.specs.declared.Check.TheVariants.{Good, BadForm, OutOfRange}
+use Rattle.std.specs.Prelude.{Ok, Err}
+use Rattle.value.specs.declared.Flaw.TheVariants.{Form, Range}
 
 module _ (v : List ℕ) (good : ℕ) (complete : Bool) where
   pub form-short : (good ≡ length v → ⊥) → well_formed v good complete ≡ some good
@@ -36,17 +37,17 @@ module _ (v : List ℕ) (good : ℕ) (complete : Bool) where
   form-at p = of-cond (λ (o : Option ℕ). o ≡ some p → good ≡ p) (eqb good (length v) && complete) (λ e f. cc) (λ e f. cc)
 
 -- ---- what each answer of a check means
-pub checked-good : (form : Option ℕ) (fits : Bool) → checked form fits ≡ Good → (form ≡ none) × (fits ≡ true)
+pub checked-good : (form : Option ℕ) (fits : Bool) → checked form fits ≡ Ok tt → (form ≡ none) × (fits ≡ true)
 checked-good (some at) fits e = absurd (let z : ◌≡◌ {A = ℕ} 0 1 = cc in omega arith)
 checked-good none true e = (refl, refl)
 checked-good none false e = absurd (let z : ◌≡◌ {A = ℕ} 0 1 = cc in omega arith)
 
-pub checked-bad : (form : Option ℕ) (fits : Bool) (at : ℕ) → checked form fits ≡ BadForm at → form ≡ some at
+pub checked-bad : (form : Option ℕ) (fits : Bool) (at : ℕ) → checked form fits ≡ Err (Form at) → form ≡ some at
 checked-bad (some place) fits at e = cc
 checked-bad none true at e = absurd (let z : ◌≡◌ {A = ℕ} 0 1 = cc in omega arith)
 checked-bad none false at e = absurd (let z : ◌≡◌ {A = ℕ} 0 1 = cc in omega arith)
 
-pub checked-out : (form : Option ℕ) (fits : Bool) → checked form fits ≡ OutOfRange → (form ≡ none) × (fits ≡ false)
+pub checked-out : (form : Option ℕ) (fits : Bool) → checked form fits ≡ Err Range → (form ≡ none) × (fits ≡ false)
 checked-out (some at) fits e = absurd (let z : ◌≡◌ {A = ℕ} 0 1 = cc in omega arith)
 checked-out none true e = absurd (let z : ◌≡◌ {A = ℕ} 0 1 = cc in omega arith)
 checked-out none false e = (refl, refl)

@@ -25,12 +25,12 @@ use Rattle.text.proofs.ReadLaws.{digits-below, front-in}
 use Rattle.value.specs.Value.{well_formed, bad_number, bad_digits, number_or}
 use Rattle.value.specs.Place.{Numeral, NumberForm}
 use Rattle.value.specs.Readers.{checked, numbered, number_read, exactly_checked}
-use Rattle.value.specs.declared.Check.TheVariants.{Good, BadForm}
-use Rattle.value.specs.declared.Number.{Number}
-use Rattle.value.specs.declared.Number.TheVariants as number
+use Rattle.std.specs.Prelude.{Result, Ok, Err}
+use Rattle.value.specs.declared.Flaw.{Flaw}
+use Rattle.value.specs.declared.Flaw.TheVariants.{Form, Range}
 use Rattle.value.proofs.Forms.{form-short, form-part, form-well, form-good}
 
-abbrev judged : ℕ → ℕ → List ℕ → Option ℕ → Number
+abbrev judged : ℕ → ℕ → List ℕ → Option ℕ → Result ℕ Flaw
 judged low high v form = numbered v form (between low high (digits v))
 
 -- the first k bytes, where so many digits stand at the front, write a number of k digits
@@ -55,11 +55,11 @@ module _ (v : List ℕ) (d : Digits) (e : d ≡ digits_at_front 9 v) where
   unfolding bad_number
   by_front = sym (ap (λ (n : ℕ). well_formed v n (leb 1 (length v))) taken)
 
-  pub number_short : (low high : ℕ) → (d.len ≡ length v → ⊥) → number.BadForm d.len ≡ number_read low high v
+  pub number_short : (low high : ℕ) → (d.len ≡ length v → ⊥) → Err (Form d.len) ≡ number_read low high v
   unfolding number_read
   number_short low high h = sym (ap (judged low high v) (by_front ∙ form-short v d.len (leb 1 (length v)) h))
 
-  pub number-empty : (low high : ℕ) → d.len ≡ length v → d.len < 1 → number.BadForm d.len ≡ number_read low high v
+  pub number-empty : (low high : ℕ) → d.len ≡ length v → d.len < 1 → Err (Form d.len) ≡ number_read low high v
   unfolding number_read
   number-empty low high h l =
       sym (ap (judged low high v) (by_front ∙ form-part v d.len (leb 1 (length v)) (lt-leb 1 (length v) (omega arith))))
@@ -72,17 +72,17 @@ module _ (v : List ℕ) (d : Digits) (e : d ≡ digits_at_front 9 v) where
     unfolding digits_at_front
     whole = ap (λ (x : Digits). x.value) e ∙ ap digits (take_all (digits_taken 9 v) v (omega (arith, taken)))
 
-    by-range : (low high : ℕ) → number_read low high v ≡ cond (between low high d.value) (number.Value d.value) number.OutOfRange
+    by-range : (low high : ℕ) → number_read low high v ≡ cond (between low high d.value) (Ok d.value) (Err Range)
     unfolding number_read
-    by-range low high = ap (judged low high v) formed ∙ ap (λ (n : ℕ). cond (between low high n) (number.Value n) number.OutOfRange) (sym whole)
+    by-range low high = ap (judged low high v) formed ∙ ap (λ (n : ℕ). cond (between low high n) (Ok n) (Err Range)) (sym whole)
 
-    pub number-in : (low high : ℕ) → low ≤ d.value → d.value ≤ high → number.Value d.value ≡ number_read low high v
+    pub number-in : (low high : ℕ) → low ≤ d.value → d.value ≤ high → Ok d.value ≡ number_read low high v
     number-in low high a b = sym (by-range low high ∙ cond-true _ _ _ (is-between low high d.value a b))
 
-    pub number-below : (low high : ℕ) → d.value < low → number.OutOfRange ≡ number_read low high v
+    pub number-below : (low high : ℕ) → d.value < low → Err Range ≡ number_read low high v
     number-below low high a = sym (by-range low high ∙ cond-false _ _ _ (is_below low high d.value a))
 
-    pub number-above : (low high : ℕ) → high < d.value → number.OutOfRange ≡ number_read low high v
+    pub number-above : (low high : ℕ) → high < d.value → Err Range ≡ number_read low high v
     number-above low high a = sym (by-range low high ∙ cond-false _ _ _ (is-above low high d.value a))
 
 -- ---- which values are digits only, so many
@@ -124,16 +124,16 @@ module _ (n : ℕ) (v : List ℕ) (r : ℕ) (e : r ≡ digit_run v) where
   unfolding exactly_checked bad_digits
   exactly-by good form h f = sym (ap (λ (k : ℕ). checked (well_formed v k (leb n (length v))) true) (ap (min n) (sym e) ∙ h) ∙ ap (λ (o : Option ℕ). checked o true) f)
 
-  pub exactly-long : n < r → BadForm n ≡ exactly_checked n v
+  pub exactly-long : n < r → Err (Form n) ≡ exactly_checked n v
   exactly-long h = exactly-by n (some n) (omega arith) (form-short v n (leb n (length v)) (λ k. omega (arith, run-most 48 57 v)))
 
-  pub exactly-other : r ≤ n → (r ≡ length v → ⊥) → BadForm r ≡ exactly_checked n v
+  pub exactly-other : r ≤ n → (r ≡ length v → ⊥) → Err (Form r) ≡ exactly_checked n v
   exactly-other h k = exactly-by r (some r) (omega arith) (form-short v r (leb n (length v)) k)
 
-  pub exactly-short : r ≡ length v → r < n → BadForm r ≡ exactly_checked n v
+  pub exactly-short : r ≡ length v → r < n → Err (Form r) ≡ exactly_checked n v
   exactly-short k h = exactly-by r (some r) (omega arith) (form-part v r (leb n (length v)) (lt-leb n (length v) (omega arith)))
 
-  pub exactly-good : r ≤ n → r ≡ length v → n ≤ r → Good ≡ exactly_checked n v
+  pub exactly-good : r ≤ n → r ≡ length v → n ≤ r → Ok tt ≡ exactly_checked n v
   exactly-good h k l = exactly-by r none (omega arith) (form-well v r (leb n (length v)) k (le-leb n (length v) (omega arith)))
 
 pub numeral-small : (v : List ℕ) → NumberForm v → digits v ≤ 999999999
@@ -150,22 +150,22 @@ pub record NumberGood (low high : ℕ) (v : List ℕ) (n : ℕ) : Type 0 where
   pub most : n ≤ high
   pub small : n ≤ 999999999
 
-answer-good : (n : ℕ) (v : List ℕ) (form : Option ℕ) (fits : Bool) → numbered v form fits ≡ number.Value n → (form ≡ none) × (fits ≡ true) × (digits v ≡ n)
+answer-good : (n : ℕ) (v : List ℕ) (form : Option ℕ) (fits : Bool) → numbered v form fits ≡ Ok n → (form ≡ none) × (fits ≡ true) × (digits v ≡ n)
 answer-good n v (some at) fits e = absurd (let z : ◌≡◌ {A = ℕ} 0 1 = cc in omega arith)
 answer-good n v none true e = (refl, refl, cc)
 answer-good n v none false e = absurd (let z : ◌≡◌ {A = ℕ} 0 1 = cc in omega arith)
 
-answer-bad : (at : ℕ) (v : List ℕ) (form : Option ℕ) (fits : Bool) → numbered v form fits ≡ number.BadForm at → form ≡ some at
+answer-bad : (at : ℕ) (v : List ℕ) (form : Option ℕ) (fits : Bool) → numbered v form fits ≡ Err (Form at) → form ≡ some at
 answer-bad at v (some place) fits e = cc
 answer-bad at v none true e = absurd (let z : ◌≡◌ {A = ℕ} 0 1 = cc in omega arith)
 answer-bad at v none false e = absurd (let z : ◌≡◌ {A = ℕ} 0 1 = cc in omega arith)
 
-answer-out : (v : List ℕ) (form : Option ℕ) (fits : Bool) → numbered v form fits ≡ number.OutOfRange → (form ≡ none) × (fits ≡ false)
+answer-out : (v : List ℕ) (form : Option ℕ) (fits : Bool) → numbered v form fits ≡ Err Range → (form ≡ none) × (fits ≡ false)
 answer-out v (some at) fits e = absurd (let z : ◌≡◌ {A = ℕ} 0 1 = cc in omega arith)
 answer-out v none true e = absurd (let z : ◌≡◌ {A = ℕ} 0 1 = cc in omega arith)
 answer-out v none false e = (refl, refl)
 
-pub number-good : (low high : ℕ) (v : List ℕ) (n : ℕ) → number_read low high v ≡ number.Value n → NumberGood low high v n
+pub number-good : (low high : ℕ) (v : List ℕ) (n : ℕ) → number_read low high v ≡ Ok n → NumberGood low high v n
 unfolding number_read
 number-good low high v n e =
     let p = answer-good n v (bad_number v) (between low high (digits v)) e in
@@ -180,16 +180,16 @@ number-good low high v n e =
       small = omega (arith, numeral-small v l);
     }
 
-pub number-bad : (low high : ℕ) (v : List ℕ) (at : ℕ) → number_read low high v ≡ number.BadForm at → bad_number v ≡ some at
+pub number-bad : (low high : ℕ) (v : List ℕ) (at : ℕ) → number_read low high v ≡ Err (Form at) → bad_number v ≡ some at
 unfolding number_read
 number-bad low high v at e = answer-bad at v (bad_number v) (between low high (digits v)) e
 
-pub number-out : (low high : ℕ) (v : List ℕ) → number_read low high v ≡ number.OutOfRange → (bad_number v ≡ none) × (between low high (digits v) ≡ false)
+pub number-out : (low high : ℕ) (v : List ℕ) → number_read low high v ≡ Err Range → (bad_number v ≡ none) × (between low high (digits v) ≡ false)
 unfolding number_read
 number-out low high v e = answer-out v (bad_number v) (between low high (digits v)) e
 
 -- ---- a numeral in range is read
-pub number_read_lem : (low high : ℕ) (v : List ℕ) → bad_number v ≡ none → low ≤ digits v → digits v ≤ high → number_read low high v ≡ number.Value (digits v)
+pub number_read_lem : (low high : ℕ) (v : List ℕ) → bad_number v ≡ none → low ≤ digits v → digits v ≤ high → number_read low high v ≡ Ok (digits v)
 unfolding number_read
 number_read_lem low high v e a b =
     ap (judged low high v) e ∙ cond-true (between low high (digits v)) _ _ (is-between low high (digits v) a b)

@@ -26,7 +26,8 @@ use Rattle.value.specs.Value.{well_formed, wholes, point_at, pointed, decimals, 
 use Rattle.value.specs.Place.{Numeral, PriceForm}
 use Rattle.value.specs.Readers.{priced, price_front, price_read}
 use Rattle.value.specs.declared.Front.{Front}
-use Rattle.value.specs.declared.Price.TheVariants as price
+use Rattle.std.specs.Prelude.{Ok, Err}
+use Rattle.value.specs.declared.Flaw.TheVariants.{Form}
 use Rattle.value.proofs.Forms.{form-short, form-part, form-well, form-good}
 use Rattle.value.proofs.Numbers.{front_below, front-numeral}
 
@@ -61,11 +62,11 @@ module _ (v : List ℕ) (f : Front) (e : f ≡ price_front v) where
       form-cond v (pointed v) (wholes v + 1 + decimals v) (wholes v) (leb 1 (decimals v)) (leb 1 (wholes v))
       ∙ sym (ap (λ (x : Front). well_formed v x.good x.complete) e)
 
-  pub price-short : (f.good ≡ length v → ⊥) → price.BadForm f.good ≡ price_read v
+  pub price-short : (f.good ≡ length v → ⊥) → Err (Form f.good) ≡ price_read v
   unfolding price_read
   price-short h = sym (ap (priced v) (by_front ∙ form-short v f.good f.complete h))
 
-  pub price-part : f.complete ≡ false → price.BadForm f.good ≡ price_read v
+  pub price-part : f.complete ≡ false → Err (Form f.good) ≡ price_read v
   unfolding price_read
   price-part h = sym (ap (priced v) (by_front ∙ form-part v f.good f.complete h))
 
@@ -73,9 +74,9 @@ module _ (v : List ℕ) (f : Front) (e : f ≡ price_front v) where
   unfolding price_front
   price-front = ap (λ (x : Front). x.price) e
 
-  pub price-whole : f.good ≡ length v → f.complete ≡ true → price.Value f.price ≡ price_read v
+  pub price-whole : f.good ≡ length v → f.complete ≡ true → Ok f.price ≡ price_read v
   unfolding price_read
-  price-whole g h = ap price.Value price-front ∙ sym (ap (priced v) (by_front ∙ form-well v f.good f.complete g h))
+  price-whole g h = ap Ok price-front ∙ sym (ap (priced v) (by_front ∙ form-well v f.good f.complete g h))
 
 -- ---- a price has seven digits and four decimals at most
 scaled-below : (k a : ℕ) → k ≤ 4 → a < 10 ^ k → a * 10 ^ (4 - k) < 10 ^ 4
@@ -99,26 +100,26 @@ pub record PriceGood (v : List ℕ) (p : ℕ) : Type 0 where
   pub price : price_in v ≡ p
   pub small : p ≤ 99999999999
 
-answer-good : (p : ℕ) (v : List ℕ) (form : Option ℕ) → priced v form ≡ price.Value p → (form ≡ none) × (price_in v ≡ p)
+answer-good : (p : ℕ) (v : List ℕ) (form : Option ℕ) → priced v form ≡ Ok p → (form ≡ none) × (price_in v ≡ p)
 answer-good p v (some at) e = absurd (let z : ◌≡◌ {A = ℕ} 0 1 = cc in omega arith)
 answer-good p v none e = (refl, cc)
 
-pub price-good : (v : List ℕ) (p : ℕ) → price_read v ≡ price.Value p → PriceGood v p
+pub price-good : (v : List ℕ) (p : ℕ) → price_read v ≡ Ok p → PriceGood v p
 unfolding price_read
 price-good v p e =
     let q = answer-good p v (bad_price v) e in
     let n : price_in v ≡ p = q.1 in
     record { formed = q.0; price = n; small = omega (arith, price-small v) }
 
-answer-bad : (at : ℕ) (v : List ℕ) (form : Option ℕ) → priced v form ≡ price.BadForm at → form ≡ some at
+answer-bad : (at : ℕ) (v : List ℕ) (form : Option ℕ) → priced v form ≡ Err (Form at) → form ≡ some at
 answer-bad at v (some place) e = cc
 answer-bad at v none e = absurd (let z : ◌≡◌ {A = ℕ} 0 1 = cc in omega arith)
 
-pub price-bad : (v : List ℕ) (at : ℕ) → price_read v ≡ price.BadForm at → bad_price v ≡ some at
+pub price-bad : (v : List ℕ) (at : ℕ) → price_read v ≡ Err (Form at) → bad_price v ≡ some at
 unfolding price_read
 price-bad v at e = answer-bad at v (bad_price v) e
 
-pub price-read : (v : List ℕ) → bad_price v ≡ none → price_read v ≡ price.Value (price_in v)
+pub price-read : (v : List ℕ) → bad_price v ≡ none → price_read v ≡ Ok (price_in v)
 unfolding price_read
 price-read v e = ap (priced v) e
 

@@ -2,14 +2,14 @@
 --     time-good, time-bad, time-out     what each answer means
 --     time-is, time-bytes     what it means to be a time, and the bytes of one
 --     time-read     a time is read
---     time-yes, time-form, time-range     each answer, as a test
+--     time-ok     the answers, as a test
 --     day-plain, clock-plain, time-plain     a time with .mmm, known by the bytes at its places
 --     time-filled, time-full     a time of 17 bytes with .000 after it is a time, of 21 bytes
 use mathlib.Core.Path.{◌≡◌, refl, sym, ap, ◌∙◌}
 use mathlib.Core.Logic.{◌⊎◌, ⊎_elim, inl, inr}
 use mathlib.Core.List.{List, [], ◌∷◌, ◌++◌}
 use mathlib.Core.Option.{Option, none, some}
-use mathlib.Core.Bool.{true, false, cond}
+use mathlib.Core.Bool.{Bool, true, false, cond, ◌&&◌}
 use Prim.Native.Nat.{ℕ, ◌+◌, ◌-◌, ◌*◌, ◌≤◌, ◌<◌}
 use native.Mathlib.Omega.{arith}
 use lib.ListN.{length, length-append, get_or}
@@ -17,14 +17,14 @@ use lib.Dec.{eqb}
 use borrow.Author.Tests.{eqb-true, eq-eqb}
 use Rattle.octet.specs.Bytes.{bytes_of, between, part, all_in}
 use Rattle.octet.specs.Maybe.{is_none}
-use Rattle.octet.proofs.Cases.{not-true-false, of-cond, contrary, cond-true, and_both, and-make, or_cases}
+use Rattle.octet.proofs.Cases.{of-cond, contrary, cond-true, and_both, and-make, or_cases}
 use Rattle.octet.proofs.Lists.{part-first, drop-step}
 use Rattle.text.specs.Decimal.{digits}
 use Rattle.value.specs.Value.{well_formed, like_run, time_pattern, time_long, bad_time, is_day, is_clock, number_on, time_fits, is_time}
 use Rattle.value.specs.Plain.{like_from, two_digits, pair_on, PlainDay, PlainClock}
 use Rattle.value.specs.Readers.{checked, time_checked}
-use Rattle.value.specs.declared.Check.{Check}
-use Rattle.value.specs.declared.Check.TheVariants.{Good, BadForm, OutOfRange}
+use Rattle.std.specs.Prelude.{is_ok, Ok, Err}
+use Rattle.value.specs.declared.Flaw.TheVariants.{Form, Range}
 use Rattle.value.proofs.Forms.{form-short, form-part, form-well, form-good, checked-good, checked-bad, checked-out}
 use Rattle.value.proofs.Days.{day-below, clock-below}
 use Rattle.value.proofs.Like.{like-go, like-done, like-all, like-append}
@@ -35,12 +35,12 @@ module _ (v : List ℕ) (good : ℕ) (e : good ≡ like_run time_pattern v) wher
   unfolding bad_time
   by-run = ap (λ (n : ℕ). well_formed v n (time_long (length v))) (sym e)
 
-  pub time-short : (good ≡ length v → ⊥) → BadForm good ≡ time_checked v
+  pub time-short : (good ≡ length v → ⊥) → Err (Form good) ≡ time_checked v
   unfolding time_checked
   time-short h = sym (ap (λ (o : Option ℕ). checked o (time_fits v)) (by-run ∙ form-short v good (time_long (length v)) h))
 
   module _ (g : good ≡ length v) where
-    pub time-long : time_long good ≡ false → BadForm good ≡ time_checked v
+    pub time-long : time_long good ≡ false → Err (Form good) ≡ time_checked v
     unfolding time_checked
     time-long h =
         sym (ap (λ (o : Option ℕ). checked o (time_fits v)) (by-run ∙ form-part v good (time_long (length v)) (ap time_long (sym g) ∙ h)))
@@ -48,7 +48,7 @@ module _ (v : List ℕ) (good : ℕ) (e : good ≡ like_run time_pattern v) wher
     pub time-formed : time_long good ≡ true → bad_time v ≡ none
     time-formed h = by-run ∙ form-well v good (time_long (length v)) g (ap time_long (sym g) ∙ h)
 
-pub time-ranged : (v : List ℕ) → bad_time v ≡ none → time_checked v ≡ cond (time_fits v) Good OutOfRange
+pub time-ranged : (v : List ℕ) → bad_time v ≡ none → time_checked v ≡ cond (time_fits v) (Ok tt) (Err Range)
 unfolding time_checked
 time-ranged v e = ap (λ (o : Option ℕ). checked o (time_fits v)) e
 
@@ -138,17 +138,17 @@ pub record TimeGood (v : List ℕ) : Type 0 where
 of_parts : (v : List ℕ) → bad_time v ≡ none → time_fits v ≡ true → is_time v ≡ true
 of_parts v e f = and-make (is_none (bad_time v)) (time_fits v) (ap is_none e) f
 
-pub time-good : (v : List ℕ) → time_checked v ≡ Good → TimeGood v
+pub time-good : (v : List ℕ) → time_checked v ≡ Ok tt → TimeGood v
 unfolding time_checked
 time-good v e =
     let p = checked-good (bad_time v) (time_fits v) e in
     record { formed = p.0; fits = p.1; time = of_parts v p.0 p.1; lengths = time-lengths v p.0 }
 
-pub time-bad : (v : List ℕ) (at : ℕ) → time_checked v ≡ BadForm at → bad_time v ≡ some at
+pub time-bad : (v : List ℕ) (at : ℕ) → time_checked v ≡ Err (Form at) → bad_time v ≡ some at
 unfolding time_checked
 time-bad v at e = checked-bad (bad_time v) (time_fits v) at e
 
-pub time-out : (v : List ℕ) → time_checked v ≡ OutOfRange → (bad_time v ≡ none) × (time_fits v ≡ false)
+pub time-out : (v : List ℕ) → time_checked v ≡ Err Range → (bad_time v ≡ none) × (time_fits v ≡ false)
 unfolding time_checked
 time-out v e = checked-out (bad_time v) (time_fits v) e
 
@@ -167,8 +167,8 @@ pub time-bytes : (v : List ℕ) → is_time v ≡ true → all_in 45 58 v ≡ tr
 unfolding bad_time
 time-bytes v e = like-all time_pattern v (form-good v (like_run time_pattern v) (time_long (length v)) (time-is v e).formed).0 refl
 
-pub time-read : (v : List ℕ) → is_time v ≡ true → time_checked v ≡ Good
-time-read v e = let t = time-is v e in time-ranged v t.formed ∙ cond-true (time_fits v) Good OutOfRange t.fits
+pub time-read : (v : List ℕ) → is_time v ≡ true → time_checked v ≡ Ok tt
+time-read v e = let t = time-is v e in time-ranged v t.formed ∙ cond-true (time_fits v) (Ok tt) (Err Range) t.fits
 
 -- a time with .mmm by its parts
 pub time-plain : (v : List ℕ) → length v ≡ 21 → get_or v 17 0 ≡ 46 → (n : ℕ) → n ≡ pair_on 18 v → n < 100 → between 48 57 (get_or v 20 0) ≡ true → PlainDay v → PlainClock v → is_time v ≡ true
@@ -208,12 +208,7 @@ time-full t e =
     (λ h. (e, ⊎_elim (λ (l : length t ≡ 17). contrary (eq-eqb (length t) 17 l) h) (λ l. l) (time-is t e).lengths))
 
 -- ---- what the reader answers, as a test
-module _ (v : List ℕ) (k : Check) (e : k ≡ time_checked v) where
-  pub time-yes : k ≡ Good → true ≡ is_time v
-  time-yes g = let h : time_checked v ≡ Good = cc in sym (time-good v h).time
-
-  pub time-form : (at : ℕ) → k ≡ BadForm at → false ≡ is_time v
-  time-form at g = sym (not-true-false (is_time v) (λ h. let r = time-read v h in let z : ◌≡◌ {A = ℕ} 0 1 = cc in omega arith))
-
-  pub time-range : k ≡ OutOfRange → false ≡ is_time v
-  time-range g = sym (not-true-false (is_time v) (λ h. let r = time-read v h in let z : ◌≡◌ {A = ℕ} 0 1 = cc in omega arith))
+pub time-ok : (form : Option ℕ) (fits : Bool) → is_ok (checked form fits) ≡ (is_none form && fits)
+time-ok (some at) fits = refl
+time-ok none true = refl
+time-ok none false = refl

@@ -1,16 +1,16 @@
--- `value::is_day_of` meets its contract, by its tests.
+-- `value::is_day_of` meets its contract: each arm knows its month.
 use borrow.Author.Tests.{le-leb, lt-leb}
 use Rattle.value.specs.Value.{day_fits}
 use Rattle.value.proofs.is_day_of.Goals as goal
 
-pub returns-then-known : goal.returns-then-known
+pub returns-in-Some : goal.returns-in-Some
 unfolding day_fits
-returns-then-known c = rw c.if-known.true c.is_day.ensures
+returns-in-Some c = rw c.in-Some.is c.is_day.ensures
 
-pub returns-then-day-lt1 : goal.returns-then-day-lt1
+pub returns-then-day-ge1 : goal.returns-then-day-ge1
 unfolding day_fits
-returns-then-day-lt1 c = simp (c.if-known.false, lt-leb _ _ c.if-day-lt1.true)
+returns-then-day-ge1 c = simp (c.in-None.is, le-leb _ _ c.if-day-ge1.true)
 
-pub returns : goal.returns
+pub returns-else-day-ge1 : goal.returns-else-day-ge1
 unfolding day_fits
-returns c = simp (c.if-known.false, le-leb _ _ c.if-day-lt1.false)
+returns-else-day-ge1 c = simp (c.in-None.is, lt-leb _ _ c.if-day-ge1.false)

@@ -4,7 +4,8 @@ use mathlib.Core.Path.{◌≡◌, sym, ap, ◌∙◌}
 use mathlib.Core.Bool.{Bool, cond}
 use mathlib.Core.Option.{none}
 use Rattle.value.specs.Value.{bad_time}
-use Rattle.value.specs.declared.Check.TheVariants.{Good, OutOfRange}
+use Rattle.std.specs.Prelude.{Ok, Err}
+use Rattle.value.specs.declared.Flaw.TheVariants.{Range}
 use Rattle.value.proofs.Times.{time-short, time-long, time-formed, time-ranged, time-least}
 use Rattle.value.proofs.read_like.Statement.{statement}
 use Rattle.value.proofs.read_like.Tie as tie
@@ -23,10 +24,10 @@ time_fits-requires : tie.Need-time_fits-requires
 time_fits-requires c κs = time-least _ (formed c)
 
 returns-then-not-time_fits : tie.Need-returns-then-not-time_fits
-returns-then-not-time_fits c = sym (time-ranged _ (formed c.before.before) ∙ ap (λ (t : Bool). cond t Good OutOfRange) (sym c.time_fits.ensures ∙ c.if-not-time_fits.true))
+returns-then-not-time_fits c = sym (time-ranged _ (formed c.before.before) ∙ ap (λ (t : Bool). cond t (Ok tt) (Err Range)) (sym c.time_fits.ensures ∙ c.if-not-time_fits.true))
 
 returns : tie.Need-returns
-returns c = sym (time-ranged _ (formed c.before.before) ∙ ap (λ (t : Bool). cond t Good OutOfRange) (sym c.time_fits.ensures ∙ c.if-not-time_fits.false))
+returns c = sym (time-ranged _ (formed c.before.before) ∙ ap (λ (t : Bool). cond t (Ok tt) (Err Range)) (sym c.time_fits.ensures ∙ c.if-not-time_fits.false))
 
 pub read_like_spec : {M : Type 1} → statement M
 read_like_spec =

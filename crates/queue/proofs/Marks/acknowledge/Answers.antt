@@ -3,7 +3,9 @@ use mathlib.Core.Path.{ap, ◌∙◌}
 use Prim.Native.Nat.{ℕ}
 use native.Mathlib.Omega.{arith}
 use Rattle.queue.specs.Queue.{acked_up_to}
-use Rattle.queue.specs.declared.Acknowledged.TheVariants as acknowledged
+use Rattle.queue.specs.declared.Marks.{Marks}
+use Rattle.queue.specs.Queue.{Acknowledged}
+use Rattle.std.specs.Prelude.{Ok, Some}
 use Rattle.queue.proofs.Offering.{ack-short, ack-above, ack-already, ack-taken}
 use Rattle.queue.proofs.Marks.acknowledge.Goals as goal
 
@@ -28,10 +30,13 @@ returns-then-n-self c =
     let g = ack-already a.setup a.self a.n a.book.now a.note.now (omega arith) (omega arith) (omega arith) in
     g
 
+abbrev taken : Marks → Acknowledged
+taken m = Ok (Some m)
+
 pub returns : goal.returns
 returns c =
     let a = c.args in
     let enough = c.note_least.ensures in
     let g = ack-taken a.setup a.self a.n a.book.now a.note.now (omega arith) (omega arith) (omega arith) in
     let off = c.take_off-day.ensures in
-    (ap acknowledged.Taken (c.acked_up_to.ensures ∙ ap (λ (d : ℕ). acked_up_to a.n d a.self) off.0) ∙ g.0, off.1 ∙ g.1, c.put_acks.ensures.1 ∙ g.2)
+    (ap taken (c.acked_up_to.ensures ∙ ap (λ (d : ℕ). acked_up_to a.n d a.self) off.0) ∙ g.0, off.1 ∙ g.1, c.put_acks.ensures.1 ∙ g.2)

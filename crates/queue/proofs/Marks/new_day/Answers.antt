@@ -1,6 +1,6 @@
 -- `queue::Marks::new_day` meets its contract. The lent book is not touched.
 use mathlib.Core.Path.{refl, ap, ◌∙◌}
-use Rattle.queue.specs.declared.Day.TheVariants as day
+use Rattle.std.specs.Prelude.{Ok}
 use native.Mathlib.Omega.{arith}
 use Rattle.queue.proofs.Offering.{day-waiting, day-fresh}
 use Rattle.queue.proofs.Marks.new_day.Goals as goal
@@ -13,4 +13,4 @@ returns-then-self c =
 pub returns : goal.returns
 returns c =
     let a = c.args in
-    (ap day.Fresh c.none.ensures ∙ day-fresh a.self (omega arith), refl)
+    (ap Ok c.none.ensures ∙ day-fresh a.self (omega arith), refl)

@@ -6,7 +6,7 @@ use lib.ListN.{length}
 use Rattle.fill.specs.Slot.{line_least}
 use Rattle.book.specs.Memory.{slots_in}
 use Rattle.queue.specs.declared.Marks.{Marks}
-use Rattle.queue.specs.declared.Offer.TheVariants as offer
+use Rattle.queue.specs.Queue.{gives}
 use Rattle.queue.proofs.Offering.{offer-short, offer-past, offer-next}
 use Rattle.queue.proofs.Marks.offer.Goals as goal
 
@@ -29,4 +29,4 @@ returns c =
     let next : a.self.offered < a.self.last = omega (arith, c.if-self.false) in
     let written = c.write_line-len.ensures in
     let g = offer-next a.setup a.self a.book.now a.line.now _ _ _ enough next c.slot_at.ensures written.line_after written.value written.line_bound in
-    (ap (λ (m : Marks). offer.Given m c.write_line-len.result) c.offered_up_to.ensures ∙ g.0, g.1)
+    (ap (λ (m : Marks). gives m c.write_line-len.result) c.offered_up_to.ensures ∙ g.0, g.1)

@@ -1,7 +1,0 @@
-use Rattle.tally.proofs.Tally.one_rejected.Goals as goal
-
-pub returns : goal.returns
-returns c = rw c.up.ensures
-
-pub up-requires : goal.up-requires
-up-requires c = tt
