@@ -32,8 +32,8 @@ dawn-requires c =
     let if1 = c.if-note-note_least in
     omega (arith, if1.false, note-least.ensures)
 
-pub returns-in-Refused : goal.returns-in-Refused
-returns-in-Refused c =
+pub returns-in-Err : goal.returns-in-Err
+returns-in-Err c =
     let a = c.args in
     let note-least = c.note_least in
     let if1 = c.if-note-note_least in
@@ -41,10 +41,10 @@ returns-in-Refused c =
     let if2 = c.if-is_on in
     let new-day = c.new_day in
     λ reply line. day-waiting a.setup a.st a.book.now (lent_line reply (length a.note.now) line) a.note.now new-day.ensures.1 refl
-    (sym (le-ltb _ _ if1.false) ∙ ap (ltb (length a.note.now)) note-least.ensures) (sym if2.false ∙ is-on.ensures) (sym c.in-Refused.is ∙ new-day.ensures.0) c.plain-in-Refused.ensures
+    (sym (le-ltb _ _ if1.false) ∙ ap (ltb (length a.note.now)) note-least.ensures) (sym if2.false ∙ is-on.ensures) (sym c.in-Err.is ∙ new-day.ensures.0) c.plain-in-Err.ensures
 
-pub returns-in-Fresh : goal.returns-in-Fresh
-returns-in-Fresh c =
+pub returns-in-Ok : goal.returns-in-Ok
+returns-in-Ok c =
     let a = c.args in
     let note-least = c.note_least in
     let if1 = c.if-note-note_least in
@@ -53,4 +53,4 @@ returns-in-Fresh c =
     let new-day = c.new_day in
     let dawn = c.dawn in
     λ reply line. day-dawned a.setup a.st a.book.now (lent_line reply (length a.note.now) line) a.note.now new-day.ensures.1
-    (sym (le-ltb _ _ if1.false) ∙ ap (ltb (length a.note.now)) note-least.ensures) (sym if2.false ∙ is-on.ensures) (sym c.in-Fresh.is ∙ new-day.ensures.0) dawn.ensures
+    (sym (le-ltb _ _ if1.false) ∙ ap (ltb (length a.note.now)) note-least.ensures) (sym if2.false ∙ is-on.ensures) (sym c.in-Ok.is ∙ new-day.ensures.0) dawn.ensures
