@@ -14,9 +14,6 @@ overflow_add-marks c =
     omega
     (arith, few a.st a.book.now a.n a.slot.now (sym c.in-New.is ∙ admit.ensures ∙ ap (λ (k : ℕ). admit_of (slots_in k a.book.now) (rows_in a.st.marks.load.orders a.book.now) a.st.marks.load a.slot.now) wide.ensures))
 
-pub with_slot-requires : goal.with_slot-requires
-with_slot-requires c = c.requires
-
 pub returns-in-Clash : goal.returns-in-Clash
 returns-in-Clash c =
     let a = c.args in
@@ -50,4 +47,4 @@ returns-in-New c =
     let admit = c.admit in
     placed-new a.st a.book.now a.n a.slot.now (omega arith) (omega arith) (omega arith)
     (sym c.in-New.is ∙ admit.ensures ∙ ap (λ (k : ℕ). admit_of (slots_in k a.book.now) (rows_in a.st.marks.load.orders a.book.now) a.st.marks.load a.slot.now) wide.ensures)
-    c.with_slot.ensures c.day_with-day.ensures c.numbered-outcome.ensures
+    c.with_slot-next.ensures c.day_with-day.ensures c.numbered-outcome.ensures

@@ -9,7 +9,7 @@ returns-in-Ok-Some c =
     let a = c.args in
     let acknowledge = c.acknowledge in
     λ reply line. record {
-      told = ap (ack_told a.st) (sym c.in-Ok-Some.is ∙ acknowledge.ensures.0) ∙ ack-told a.st a.book.now a.n a.setup
+      told = ap (ack_told a.st) (rw c.in-Ok-Some.field-0-is at (sym c.in-Ok-Some.is ∙ acknowledge.ensures.0)) ∙ ack-told a.st a.book.now a.n a.setup
           (lent_line reply (length a.note.now) line);
       booked = acknowledge.ensures.1 ∙ ack-book a.st a.book.now a.n a.setup (lent_line reply (length a.note.now) line);
       noted = acknowledge.ensures.2 ∙ ack-note a.st a.book.now a.n a.setup (lent_line reply (length a.note.now) line) a.note.now refl;
@@ -20,7 +20,7 @@ returns-in-Ok-None c =
     let a = c.args in
     let acknowledge = c.acknowledge in
     λ reply line. record {
-      told = c.plain.ensures ∙ ap (ack_told a.st) (sym c.in-Ok-None.is ∙ acknowledge.ensures.0) ∙ ack-told a.st
+      told = c.plain.ensures ∙ ap (ack_told a.st) (rw c.in-Ok-None.field-0-is at (sym c.in-Ok-None.is ∙ acknowledge.ensures.0)) ∙ ack-told a.st
           a.book.now a.n a.setup (lent_line reply (length a.note.now) line);
       booked = acknowledge.ensures.1 ∙ ack-book a.st a.book.now a.n a.setup (lent_line reply (length a.note.now) line);
       noted = acknowledge.ensures.2 ∙ ack-note a.st a.book.now a.n a.setup (lent_line reply (length a.note.now) line) a.note.now refl;

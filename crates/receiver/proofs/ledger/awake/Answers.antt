@@ -2,4 +2,4 @@
 use Rattle.receiver.proofs.ledger.awake.Goals as goal
 
 pub returns : goal.returns
-returns c = rw (c.again.ensures, c.load_in-load.ensures)
+returns c = rw (c.again.ensures, c.load_in.ensures)

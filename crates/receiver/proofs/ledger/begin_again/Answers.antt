@@ -6,4 +6,4 @@ use Rattle.receiver.proofs.ledger.begin_again.Goals as goal
 pub returns : goal.returns
 returns c =
     let a = c.args in
-    λ b m. c.plain.ensures ∙ begun-told a.st a.setup b m c.begin_again.ensures
+    λ b m. c.plain.ensures ∙ begun-told a.st a.setup b m c.begin_again-marks.ensures

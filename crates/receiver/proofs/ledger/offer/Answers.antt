@@ -9,7 +9,7 @@ returns-in-Ok-Some c =
     let a = c.args in
     let offer = c.offer in
     λ reply note. (
-      ap (offer_told a.st) (sym c.in-Ok-Some.is ∙ offer.ensures.0) ∙ offer-told a.st a.book.now a.setup
+      ap (offer_told a.st) (rw c.in-Ok-Some.field-0-is at (sym c.in-Ok-Some.is ∙ offer.ensures.0)) ∙ offer-told a.st a.book.now a.setup
           (lent_line reply note (length a.line.now)),
       offer.ensures.1 ∙ offer-line a.st a.book.now a.setup (lent_line reply note (length a.line.now)) a.line.now refl,
     )
@@ -19,7 +19,7 @@ returns-in-Ok-None c =
     let a = c.args in
     let offer = c.offer in
     λ reply note. (
-      c.plain.ensures ∙ ap (offer_told a.st) (sym c.in-Ok-None.is ∙ offer.ensures.0) ∙ offer-told a.st a.book.now
+      c.plain.ensures ∙ ap (offer_told a.st) (rw c.in-Ok-None.field-0-is at (sym c.in-Ok-None.is ∙ offer.ensures.0)) ∙ offer-told a.st a.book.now
           a.setup (lent_line reply note (length a.line.now)),
       offer.ensures.1 ∙ offer-line a.st a.book.now a.setup (lent_line reply note (length a.line.now)) a.line.now refl,
     )

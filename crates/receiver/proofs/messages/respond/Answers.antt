@@ -15,12 +15,12 @@ decide-requires c = c.index_into-scan.ensures
 pub slice_bounds-keep-end : goal.slice_bounds-keep-end
 slice_bounds-keep-end c =
     let a = c.args in
-    sym (answered-keeps a.setup a.st a.book.now a.time.now a.len (pieces_of a.body.now) c.decide.ensures _ _ _ (sym c.in-Ok-Keep.is)).wide
+    sym (answered-keeps a.setup a.st a.book.now a.time.now a.len (pieces_of a.body.now) c.decide.ensures _ _ _ (rw c.in-Ok-Keep.field-0-is at (sym c.in-Ok-Keep.is))).wide
 
 pub keep-requires : goal.keep-requires
 keep-requires c =
     let a = c.args in
-    (answered-keeps a.setup a.st a.book.now a.time.now a.len (pieces_of a.body.now) c.decide.ensures _ _ _ (sym c.in-Ok-Keep.is), c.requires.1)
+    (answered-keeps a.setup a.st a.book.now a.time.now a.len (pieces_of a.body.now) c.decide.ensures _ _ _ (rw c.in-Ok-Keep.field-0-is at (sym c.in-Ok-Keep.is)), c.requires.1)
 
 pub returns-in-Err : goal.returns-in-Err
 returns-in-Err c =
@@ -38,12 +38,12 @@ returns-in-Ok-Say c =
     let word =
     value-at.ensures ∙ ap (λ (x : Look). x.text word-tag.result) (look-by a.body.now index-into.ensures.1)
     ∙ ap (λ (t : ℕ). (at_listed look).text t) word-tag.ensures ∙ word-listed look c.in-Ok-Say.j.reply ∙ ap (λ (t : ℕ). look.text t) (sym word-tag.ensures) in
-    answered-said a.setup a.st a.book.now a.time.now a.len (pieces_of a.body.now) decide.ensures _ (sym c.in-Ok-Say.is) word word-tag.ensures
+    answered-said a.setup a.st a.book.now a.time.now a.len (pieces_of a.body.now) decide.ensures _ (rw c.in-Ok-Say.field-0-is at (sym c.in-Ok-Say.is)) word word-tag.ensures
     c.settle.ensures
 
 pub returns-in-Ok-Keep : goal.returns-in-Ok-Keep
 returns-in-Ok-Keep c =
     let a = c.args in
     let decide = c.decide in
-    answered-kept a.setup a.st a.book.now a.time.now a.len (pieces_of a.body.now) decide.ensures _ _ _ (sym c.in-Ok-Keep.is)
+    answered-kept a.setup a.st a.book.now a.time.now a.len (pieces_of a.body.now) decide.ensures _ _ _ (rw c.in-Ok-Keep.field-0-is at (sym c.in-Ok-Keep.is))
     (c.keep.ensures a.reply.now)

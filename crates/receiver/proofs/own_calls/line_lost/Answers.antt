@@ -13,4 +13,4 @@ returns c =
     let a = c.args in
     let is-off = c.is_off in
     let if1 = c.if-is_off in
-    λ b m. c.plain-2.ensures ∙ lost-told a.setup a.st b m _ c.line_lost.ensures (sym is-off.ensures ∙ if1.false)
+    λ b m. c.plain-2.ensures ∙ lost-told a.setup a.st b m _ c.line_lost-session.ensures (sym is-off.ensures ∙ if1.false)

@@ -3,20 +3,19 @@ use mathlib.Core.Bool.{true, false}
 use mathlib.Core.Path.{refl, sym, ◌∙◌}
 use borrow.Author.Tests.{lt-ltb, le-ltb}
 use Rattle.receiver.proofs.Refusing.{leave-short, leave-by}
+use Rattle.receiver.proofs.refusals.may_write.Goals.{then-reply-lt-REPLY_ROOM-via-then-reply-lt-REPLY_ROOM, then-reply-lt-REPLY_ROOM-via-else-reply-lt-REPLY_ROOM+then-note-note_least}
 use Rattle.receiver.proofs.refusals.may_write.Goals as goal
 
 pub returns-then-reply-lt-REPLY_ROOM : goal.returns-then-reply-lt-REPLY_ROOM
 returns-then-reply-lt-REPLY_ROOM c =
     let a = c.args in
-    leave-short a.setup a.reply a.note a.time.now a.allowed a.o (lt-ltb _ _ c.if-reply-lt-REPLY_ROOM.true)
-
-pub returns-then-note-note_least : goal.returns-then-note-note_least
-returns-then-note-note_least c =
-    let a = c.args in
-    let if1 = c.if-reply-lt-REPLY_ROOM in
-    let note-least = c.note_least in
-    rw (le-ltb _ _ if1.false, lt-ltb _ _ c.if-note-note_least.true) at
-    (leave-by a.setup a.reply a.note a.time.now a.allowed a.o _ _ note-least.ensures refl refl)
+    elim c.then-reply-lt-REPLY_ROOM.branch [
+      | then-reply-lt-REPLY_ROOM-via-then-reply-lt-REPLY_ROOM w ↦
+          leave-short a.setup a.reply a.note a.time.now a.allowed a.o (lt-ltb _ _ w.if-reply-lt-REPLY_ROOM.true)
+      | then-reply-lt-REPLY_ROOM-via-else-reply-lt-REPLY_ROOM+then-note-note_least w ↦
+          rw (le-ltb _ _ w.if-reply-lt-REPLY_ROOM.false, lt-ltb _ _ w.if-note-note_least.true) at
+          (leave-by a.setup a.reply a.note a.time.now a.allowed a.o _ _ w.note_least.ensures refl refl)
+    ]
 
 pub returns-then-not-is_given : goal.returns-then-not-is_given
 returns-then-not-is_given c =

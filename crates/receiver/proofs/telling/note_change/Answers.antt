@@ -1,24 +1,16 @@
 use Rattle.receiver.proofs.Speaking.{change-none, change-e, change-o}
+use Rattle.receiver.proofs.telling.note_change.Goals.{else-was-next-via-then-was-next+else-was-next-2, else-was-next-via-else-was-next}
 use Rattle.receiver.proofs.telling.note_change.Goals as goal
-
-pub returns-then-was-next : goal.returns-then-was-next
-returns-then-was-next c =
-    let pre = c.requires in
-    let a = c.args in
-    let if1 = c.if-was-next in
-    let put-raises = c.put_raises in
-    change-e a.was a.next a.note.now pre put-raises.ensures if1.true
 
 pub returns-then-was-next-2 : goal.returns-then-was-next-2
 returns-then-was-next-2 c =
-    let pre = c.requires in
     let a = c.args in
-    let if2 = c.if-was-next-2 in
-    let put-raises2 = c.put_raises-then-was-next-2 in
-    change-o a.was a.next a.note.now pre put-raises2.ensures if2.true
+    change-none a.was a.next a.note.now c.if-was-next.true c.if-was-next-2.true
 
-pub returns : goal.returns
-returns c =
+pub returns-else-was-next : goal.returns-else-was-next
+returns-else-was-next c =
     let a = c.args in
-    let if1 = c.if-was-next in
-    change-none a.was a.next a.note.now if1.false c.if-was-next-2.false
+    elim c.else-was-next.branch [
+      | else-was-next-via-then-was-next+else-was-next-2 w ↦ change-o a.was a.next a.note.now c.requires c.put_raises.ensures w.if-was-next-2.false
+      | else-was-next-via-else-was-next w ↦ change-e a.was a.next a.note.now c.requires c.put_raises.ensures w.if-was-next.false
+    ]
