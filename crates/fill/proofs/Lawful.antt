@@ -1,5 +1,4 @@
--- The tests of a lawful slot, put together from what each of them said: an early return names the tests up to its own.
---     texts-by, sums_by, lawful-by     a fill's definition, test by test; names-by, codes-by, entry-by     an entry's
+-- What the tests of a lawful slot come to.
 --     no-entry, no-fill     no slot is both
 --     lawful-entry, lawful-fill     what is asked of a slot, by its first byte
 --     lawful-parts     what is asked of a fill, one by one
@@ -54,30 +53,6 @@ use Rattle.fill.specs.Booked.{slot_lawful}
 use Rattle.answer.specs.Numbers.{nine_digits, most_contracts}
 
 module _ (s : Slot) where
-  pub texts-by : {a b d : Bool} → text_lawful (exec_of s) ≡ a → text_lawful (order_of s) ≡ b → text_lawful (symbol_of s) ≡ d → a && b && d ≡ texts_lawful s
-  texts-by ea eb ed = cc
-
-  pub sums_by : {a b d e : Bool} → leb 1 (shares_of s) ≡ a → leb (shares_of s) (cum_of s) ≡ b → leb (cum_of s) (quantity_of s) ≡ d → leb (quantity_of s) most_contracts ≡ e
-      → a && b && d && e ≡ sums_lawful s
-  sums_by ea eb ed ee = cc
-
-  pub lawful-by : {a b d e f : Bool} → texts_lawful s ≡ a → between 1 2 (side_of s) ≡ b → sums_lawful s ≡ d → leb (price_of s) most_price ≡ e → is_time (time_of s) ≡ f
-      → a && b && d && e && f ≡ fill_lawful s
-  unfolding fill_lawful
-  lawful-by ea eb ed ee ef = cc
-
-  pub names-by : {a b d : Bool} → text_lawful (trade_of s) ≡ a → text_lawful (original_of s) ≡ b → leb (get_or (original_of s) 0 0) longest_original ≡ d → a && b && d ≡ names_lawful s
-  names-by ea eb ed = cc
-
-  pub codes-by : {a b d e : Bool} → leb (number_of s) nine_digits ≡ a → between 1 2 (entry_side_of s) ≡ b → leb (transaction_of s) 2 ≡ d → between 1 5 (correction_of s) ≡ e
-      → a && b && d && e ≡ codes_lawful s
-  codes-by ea eb ed ee = cc
-
-  pub entry-by : {a b d e f : Bool} → names_lawful s ≡ a → codes_lawful s ≡ b → between 1 most_contracts (entry_shares_of s) ≡ d → leb (entry_price_of s) most_price ≡ e
-      → is_time (entry_time_of s) ≡ f → a && b && d && e && f ≡ entry_lawful s
-  unfolding entry_lawful
-  entry-by ea eb ed ee ef = cc
-
   -- any slot, by its first byte
   pub no-entry : is_fill s ≡ true → is_entry s ≡ false
   no-entry e = ap (λ (n : ℕ). eqb n entry_mark) (eqb-true (mark_of s) fill_mark e)

@@ -91,7 +91,7 @@ pub fn symbol_of(s: &[u8]) -> &[u8]
 pub fn side_of(s: &[u8]) -> u32
     ensures { result ≡ side_of s.now }
 {
-    octet::byte_at(s, SIDE_AT) as u32
+    u32::from(octet::byte_at(s, SIDE_AT))
 }
 
 fn quantity_of(s: &[u8]) -> u32
@@ -197,13 +197,7 @@ fn is_text(f: &[u8]) -> bool
 fn texts_lawful(s: &[u8]) -> bool
     ensures { result ≡ texts_lawful s.now }
 {
-    if !is_text(exec_of(s)) {
-        return false;
-    }
-    if !is_text(order_of(s)) {
-        return false;
-    }
-    is_text(symbol_of(s))
+    is_text(exec_of(s)) && is_text(order_of(s)) && is_text(symbol_of(s))
 }
 
 // LastShares, CumQty and OrderQty, each at least the one before.
@@ -213,49 +207,31 @@ fn sums_lawful(s: &[u8]) -> bool
     let shares = shares_of(s);
     let cum = cum_of(s);
     let quantity = quantity_of(s);
-    if shares < 1 {
-        return false;
-    }
-    if cum < shares {
-        return false;
-    }
-    if quantity < cum {
-        return false;
-    }
-    quantity <= MOST_CONTRACTS
+    1 <= shares && shares <= cum && cum <= quantity && quantity <= MOST_CONTRACTS
 }
 
 // Whether a fill's body is so formed, with values that a report can have.
+#[tactic(auto, unfolding(crate::specs::Slot::fill_lawful))]
 fn is_lawful_fill(s: &[u8]) -> bool
     ensures { result ≡ fill_lawful s.now }
 {
-    if !texts_lawful(s) {
-        return false;
-    }
-    let side = side_of(s);
-    if side < 1 {
-        return false;
-    }
-    if 2 < side {
-        return false;
-    }
-    if !sums_lawful(s) {
-        return false;
-    }
-    if MOST_PRICE < price_of(s) {
-        return false;
-    }
-    value::is_time(time_of(s))
+    texts_lawful(s)
+        && matches!(side_of(s), 1 | 2)
+        && sums_lawful(s)
+        && price_of(s) <= MOST_PRICE
+        && value::is_time(time_of(s))
 }
 
 // Whether a slot is lawful: a fill, or an entry.
+#[tactic(auto, unfolding(crate::specs::Booked::slot_lawful))]
 pub fn is_lawful(s: &[u8]) -> bool
     ensures { result ≡ slot_lawful s.now }
 {
     if is_entry(s) {
-        return entries::is_lawful_entry(s);
+        entries::is_lawful_entry(s)
+    } else {
+        is_lawful_fill(s)
     }
-    is_lawful_fill(s)
 }
 
 // A space and the text of a field more.
