@@ -4,53 +4,17 @@
 --     lawful-parts     what is asked of a fill, one by one
 --     lawful-sums     what the sums of a lawful fill are
 use mathlib.Core.Path.{◌≡◌, ap}
-use mathlib.Core.Bool.{Bool, true, false, ◌&&◌}
+use mathlib.Core.Bool.{true, false, ◌&&◌}
 use Prim.Native.Nat.{ℕ, ◌≤◌}
 use lib.Dec.{leb, eqb}
-use lib.ListN.{get_or}
 use Rattle.octet.specs.Bytes.{between}
 use borrow.Author.Tests.{leb-true, eqb-true}
 use Rattle.octet.proofs.Cases.{and_both}
 use Rattle.value.specs.Value.{is_time}
-use Rattle.fill.specs.Slot.{
-  Slot,
-  is_fill,
-  is_entry,
-  fill_mark,
-  entry_mark,
-  mark_of,
-  exec_of,
-  order_of,
-  symbol_of,
-  side_of,
-  quantity_of,
-  shares_of,
-  price_of,
-  cum_of,
-  time_of,
-  text_lawful,
-  texts_lawful,
-  sums_lawful,
-  most_price,
-  fill_lawful,
-}
-use Rattle.fill.specs.Entry.{
-  trade_of,
-  number_of,
-  entry_side_of,
-  transaction_of,
-  correction_of,
-  original_of,
-  entry_shares_of,
-  entry_price_of,
-  entry_time_of,
-  longest_original,
-  names_lawful,
-  codes_lawful,
-  entry_lawful,
-}
+use Rattle.fill.specs.Slot.{Slot, is_fill, is_entry, fill_mark, entry_mark, mark_of, side_of, quantity_of, shares_of, price_of, cum_of, time_of, texts_lawful, sums_lawful, most_price, fill_lawful}
+use Rattle.fill.specs.Entry.{entry_lawful}
 use Rattle.fill.specs.Booked.{slot_lawful}
-use Rattle.answer.specs.Numbers.{nine_digits, most_contracts}
+use Rattle.answer.specs.Numbers.{most_contracts}
 
 module _ (s : Slot) where
   -- any slot, by its first byte

@@ -1,6 +1,6 @@
 // An entry is a slot: a byte that says that it is one, and its body as the C note has it after E and O.
 ghost use Rattle.std.specs.Prelude.{◌≡◌};
-ghost use Rattle.text.specs.Writing.{empty, puts};
+ghost use Rattle.text.specs.Writing.{puts};
 ghost use Rattle.fill.specs.Entry.{entry_of, entry_slot, trade_of, number_of, entry_side_of, transaction_of, correction_of, original_of};
 ghost use Rattle.fill.specs.Entry.{entry_shares_of, entry_price_of, entry_time_of, key_of, names_lawful, codes_lawful, entry_lawful, entry_line};
 
@@ -162,13 +162,15 @@ pub(crate) fn is_lawful_entry(s: &[u8]) -> bool
         && value::is_time(time_of(s))
 }
 
-// The line of entry n, with its line feed: "`C`, the number and the four key fields".
-pub(crate) fn entry_text(n: u32, s: &[u8]) -> Text
-    ensures { result ≡ puts empty (entry_line n s.now) }
+// The line of entry n more, with its line feed: "`C`, the number and the four key fields".
+pub(crate) fn entry_text(t: &mut Text, n: u32, s: &[u8])
+    ensures { t.new ≡ puts t.old (entry_line n s.now) }
 {
-    let number = number_word(Text::new().put(b'C'), n as u64);
-    let trade = text_word(number, trade_of(s));
-    let correction = number_word(trade, number_of(s) as u64);
-    let side = number_word(correction, side_of(s) as u64);
-    number_word(side, transaction_of(s) as u64).put(b'\n')
+    t.put(b'C');
+    number_word(t, u64::from(n));
+    text_word(t, trade_of(s));
+    number_word(t, u64::from(number_of(s)));
+    number_word(t, u64::from(side_of(s)));
+    number_word(t, u64::from(transaction_of(s)));
+    t.put(b'\n');
 }
