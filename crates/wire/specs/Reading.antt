@@ -1,5 +1,5 @@
 -- "What we write our reader reads back" field for field: what is asked of what is given, and what is then read.
-use Rattle.std.specs.Prelude.{ℕ, ◌^◌, ◌≤◌, ◌<◌, ◌≡◌, List, [], ◌∷◌, ◌++◌, length, take}
+use Rattle.std.specs.Prelude.{ℕ, ◌^◌, ◌≤◌, ◌<◌, ◌≡◌, List, [], ◌∷◌, ◌++◌, length, take, Ok}
 use Rattle.std.proofs.Math.Option.{some}
 use Rattle.octet.specs.Bytes.{until_byte}
 use Rattle.text.specs.Decimal.{decimal}
@@ -10,7 +10,6 @@ use Rattle.field.specs.Pieces.{Pieces, pieces_of, values_of, first_of, text_at, 
 use Rattle.field.specs.Written.{values_with}
 use Rattle.field.specs.declared.Scan.TheVariants.{Sound}
 use Rattle.value.specs.Readers.{number_read}
-use Rattle.value.specs.declared.Number.TheVariants.{Value}
 use Rattle.answer.specs.Setup.{ours, theirs}
 use Rattle.answer.specs.declared.Setup.{Setup}
 use Rattle.wire.specs.declared.Say.{Say}
@@ -57,7 +56,7 @@ pub record ReadsBack (m : List ℕ) (fields : List Field) : Type 0 where
   pub values : (tag : ℕ) → values_of tag (pieces_of (layout fields)) ≡ values_with tag fields
   -- a number of up to 9 digits is read as that number
   pub numbers : (tag n low high : ℕ) → values_with tag fields ≡ decimal n ∷ [] → low ≤ n → n ≤ high → n < 10 ^ 9
-      → number_read low high (text_at tag (pieces_of (layout fields))) ≡ Value n
+      → number_read low high (text_at tag (pieces_of (layout fields))) ≡ Ok n
 
 -- ---- what the session reads of every message, by its pieces
 
