@@ -8,7 +8,6 @@ use Rattle.frame.specs.Finding.{found_in, body_in}
 use Rattle.frame.specs.declared.Found.TheVariants.{Framed}
 use Rattle.field.specs.Pieces.{Pieces, pieces_of, values_of, first_of, text_at, scan_of}
 use Rattle.field.specs.Written.{values_with}
-use Rattle.field.specs.declared.Scan.TheVariants.{Sound}
 use Rattle.value.specs.Readers.{number_read}
 use Rattle.answer.specs.Setup.{ours, theirs}
 use Rattle.answer.specs.declared.Setup.{Setup}
@@ -52,7 +51,7 @@ pub record ReadsBack (m : List ℕ) (fields : List Field) : Type 0 where
   pub framed : (rest : List ℕ) → found_in (m ++ rest) ≡ Framed (length m)
   pub body : (rest : List ℕ) → body_in (length m) (m ++ rest) ≡ layout fields
   -- each piece of the body is a field, and of every tag the values are those that were laid out, in order
-  pub sound : scan_of (pieces_of (layout fields)) ≡ Sound
+  pub sound : scan_of (pieces_of (layout fields)) ≡ Ok tt
   pub values : (tag : ℕ) → values_of tag (pieces_of (layout fields)) ≡ values_with tag fields
   -- a number of up to 9 digits is read as that number
   pub numbers : (tag n low high : ℕ) → values_with tag fields ≡ decimal n ∷ [] → low ≤ n → n ≤ high → n < 10 ^ 9
