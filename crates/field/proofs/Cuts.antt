@@ -4,6 +4,7 @@
 --     stepped, rest_end     the walk from piece to piece
 --     value-at     a value stands where it is said to stand
 --     count_at_lem, scan-at     the count and the scan, from piece to piece
+use Rattle.std.specs.Prelude.{Ok, Err, None}
 use mathlib.Core.Path.{◌≡◌, refl, ap, sym, ◌∙◌}
 use mathlib.Core.Logic.{⊎_elim}
 use mathlib.Core.Bool.{Bool, true, false, cond}
@@ -19,13 +20,10 @@ use Rattle.octet.specs.Maybe.{unless, first}
 use Rattle.octet.proofs.Cases.{le-or-lt}
 use Rattle.octet.proofs.Lists.{drop-done, length_part, part-drop, until-most, drop-take}
 use Rattle.text.specs.Decimal.{digit_run}
-use Rattle.field.specs.Pieces.{Pieces, on_first, pieces_of, tagged, tag_of, value_after, valued, carries, values_of, text_at, piece_scan, scan_of, and_then}
-use Rattle.field.specs.Stands.{Place, At, Missing, piece_at, located, or_here, place_from, place_of, step_of, piece_fault, hits}
-use Rattle.field.specs.declared.Scan.{Scan}
-use Rattle.field.specs.declared.Scan.TheVariants.{Sound, Malformed, Empty}
+use Rattle.field.specs.Pieces.{Pieces, on_first, pieces_of, tagged, tag_of, value_after, valued, carries, values_of, text_at, piece_scan, Scan, sound, scan_of, and_then}
+use Rattle.field.specs.Stands.{Piece, field, Place, At, Missing, piece_at, located, or_here, place_from, place_of, step_of, piece_fault, hits}
+use Rattle.field.specs.declared.Unsound.TheVariants.{Malformed, Empty}
 use Rattle.field.specs.declared.Step.{Step}
-use Rattle.field.specs.declared.Piece.{Piece}
-use Rattle.field.specs.declared.Piece.TheVariants.{Field, Stray}
 
 -- ---- the first piece and the others
 pub pieces-cut : (s : List ℕ) → 0 < length s → pieces_of s ≡ take (until_byte 1 s) s ∷ pieces_of (drop (suc (until_byte 1 s)) s)
@@ -178,20 +176,18 @@ module _ (tag : ℕ) where
 
 -- ---- the scan
 abbrev pub scan_in : List Piece → Scan
-scan_in [] = Sound
+scan_in [] = sound
 scan_in (g ∷ gs) = and_then (piece_fault g) (scan_in gs)
 
-pub and-then-sound : (a : Scan) → and_then a Sound ≡ a
-and-then-sound Sound = refl
-and-then-sound Malformed = refl
-and-then-sound (Empty t) = refl
+pub and-then-sound : (a : Scan) → and_then a sound ≡ a
+and-then-sound (Ok tt) = refl
+and-then-sound (Err e) = refl
 
 pub and-then-assoc : (a b c : Scan) → and_then (and_then a b) c ≡ and_then a (and_then b c)
-and-then-assoc Sound b c = refl
-and-then-assoc Malformed b c = refl
-and-then-assoc (Empty t) b c = refl
+and-then-assoc (Ok _) b c = refl
+and-then-assoc (Err e) b c = refl
 
-valued_by : (p : List ℕ) (u : ℕ) → cond (valued p) Sound (Empty u) ≡ cond (eqb (length p - (digit_run p + 1)) 0) (Empty u) Sound
+valued_by : (p : List ℕ) (u : ℕ) → cond (valued p) sound (Err (Empty u)) ≡ cond (eqb (length p - (digit_run p + 1)) 0) (Err (Empty u)) sound
 valued_by p u =
     ⊎_elim
     (λ (h : length p ≤ digit_run p + 1). rw (le-ltb _ _ h, eq-eqb (length p - (digit_run p + 1)) 0 (omega arith)))
@@ -202,7 +198,7 @@ pub fault-piece : (at : ℕ) (p : List ℕ) → piece_scan p ≡ piece_fault (pi
 unfolding piece_scan piece_at
 fault-piece at p = by (tagged p)
   where
-    by : (t : Bool) → cond t (cond (valued p) Sound (Empty (tag_of p))) Malformed ≡ piece_fault (cond t (Field (tag_of p) (at + (digit_run p + 1)) (length p - (digit_run p + 1))) Stray)
+    by : (t : Bool) → cond t (cond (valued p) sound (Err (Empty (tag_of p)))) (Err Malformed) ≡ piece_fault (cond t (field (tag_of p) (at + (digit_run p + 1)) (length p - (digit_run p + 1))) None)
     by true = valued_by p (tag_of p)
     by false = refl
 

@@ -5,6 +5,7 @@
 --     stray-mark, tag-mark     where its `|` stands
 --     is-stray, is_field     what it is
 --     step_is     the step over it
+use Rattle.std.specs.Prelude.{None}
 use mathlib.Core.Path.{◌≡◌, refl, ap, sym, ◌∙◌}
 use mathlib.Core.Logic.{⊎_elim}
 use mathlib.Core.Bool.{Bool, true, false, cond, ◌&&◌, not}
@@ -23,9 +24,7 @@ use Rattle.text.specs.declared.Digits.{Digits}
 use Rattle.text.proofs.ReadLaws.{front-in}
 use Rattle.text.proofs.Layouts.{until-past}
 use Rattle.field.specs.Pieces.{tagged, tag_of}
-use Rattle.field.specs.Stands.{piece_at, step_of}
-use Rattle.field.specs.declared.Piece.{Piece}
-use Rattle.field.specs.declared.Piece.TheVariants.{Field, Stray}
+use Rattle.field.specs.Stands.{Piece, field, piece_at, step_of}
 
 -- a byte that is not 0 stands inside
 pub stands-in : (p : List ℕ) (k b : ℕ) → get_or p k 0 ≡ b → 0 < b → k < length p
@@ -133,13 +132,13 @@ module _ (s : List ℕ) where
         ∙ ap digits (part-part 0 (until_byte 1 s) 0 d.len s (omega (arith, run_inside, len_is)))
         ∙ sym value-is
 
-    pub is_field : (at m : ℕ) → tagged s ≡ true → m ≡ until_byte 1 (drop (d.len + 1) s) → Field d.value (at + (d.len + 1)) m ≡ piece_at at piece
+    pub is_field : (at m : ℕ) → tagged s ≡ true → m ≡ until_byte 1 (drop (d.len + 1) s) → field d.value (at + (d.len + 1)) m ≡ piece_at at piece
     unfolding piece_at
     is_field at m h g =
         let l : length piece - (d.len + 1) ≡ m = omega (arith, piece-length, tag-mark h) in
         rw (same-tagged, h, same_tag h, same-run, run_is h, l)
 
-  pub is-stray : (at : ℕ) → tagged s ≡ false → Stray ≡ piece_at at piece
+  pub is-stray : (at : ℕ) → tagged s ≡ false → None ≡ piece_at at piece
   unfolding piece_at
   is-stray at h = rw (same-tagged, h)
 

@@ -16,10 +16,11 @@ use Rattle.octet.specs.Maybe.{is_none, unless}
 use Rattle.octet.specs.Maybe as maybe
 use Rattle.field.specs.Pieces.{Pieces, pieces_of, values_of, first_of, text_at, count_of}
 use Rattle.field.specs.Stands.{Place, At, Missing, place_of}
-use Rattle.field.specs.Index.{column_count, column_of, is_listed, start_in, len_in, index_of, start_at, len_at, count_at}
+use Rattle.field.specs.Index.{column_count, column_of, is_listed, start_in, len_in, index_of, column_at}
+use Rattle.field.specs.declared.Column.{Column}
 use Rattle.field.specs.Look.{Look, look_of, look_in, at_listed, first}
 use Rattle.field.proofs.Cuts.{part_by, value-at}
-use Rattle.field.proofs.IndexLaws.{Column, column-of-index}
+use Rattle.field.proofs.IndexLaws.{column-of-index}
 
 part-place : (body : List ℕ) (p : Place) → part (start_in p) (len_in p) body ≡ part_by body p
 part-place body Missing = refl
@@ -31,7 +32,7 @@ module _ (body : List ℕ) where
   text-law tag = by (ltb (column_of tag) column_count) refl
     where
       by : (q : Bool) → ltb (column_of tag) column_count ≡ q
-          → cond q (part (start_at (index_of body) (column_of tag)) (len_at (index_of body) (column_of tag)) body) [] ≡ cond q (text_at tag (pieces_of body)) []
+          → cond q (let c = column_at (index_of body) (column_of tag) in part c.start c.len body) [] ≡ cond q (text_at tag (pieces_of body)) []
       by true e =
           ap (λ (z : Column). part z.start z.len body) (column-of-index body tag (ltb-true (column_of tag) column_count e))
           ∙ part-place body (place_of tag body)
@@ -42,14 +43,14 @@ module _ (body : List ℕ) where
   unfolding look_in at_listed
   count_law tag = by (ltb (column_of tag) column_count) refl
     where
-      by : (q : Bool) → ltb (column_of tag) column_count ≡ q → cond q (count_at (index_of body) (column_of tag)) 0 ≡ cond q (count_of tag (pieces_of body)) 0
+      by : (q : Bool) → ltb (column_of tag) column_count ≡ q → cond q (column_at (index_of body) (column_of tag)).count 0 ≡ cond q (count_of tag (pieces_of body)) 0
       by true e = ap (λ (z : Column). z.count) (column-of-index body tag (ltb-true (column_of tag) column_count e))
       by false e = refl
 
   pub look-law : look_in body (index_of body) ≡ at_listed (look_of (pieces_of body))
   look-law = λ i. record { count = λ (tag : ℕ). count_law tag i; text = λ (tag : ℕ). text-law tag i }
 
-  pub look-by : {index : List ℕ} → index ≡ index_of body → look_in body index ≡ at_listed (look_of (pieces_of body))
+  pub look-by : {index : List Column} → index ≡ index_of body → look_in body index ≡ at_listed (look_of (pieces_of body))
   look-by e = ap (look_in body) e ∙ look-law
 
 -- at a listed tag nothing is passed over

@@ -22,9 +22,8 @@ use Rattle.text.specs.Decimal.{digits, digit_run, decimal}
 use Rattle.text.proofs.Decimals.{decimal-some, decimal-unmarked, decimal-small, decimal-large}
 use Rattle.text.specs.Fields.{Field, ◌is◌, field_bytes, layout}
 use Rattle.text.proofs.Layouts.{field-text, piece-length, tag-run, tag-some, tag-few, tag-lead, tag_back, tag-equals, tag-value, piece-unmarked}
-use Rattle.field.specs.Pieces.{Pieces, pieces_of, tagged, tag_of, value_after, valued, carries, values_of, piece_scan, scan_of}
+use Rattle.field.specs.Pieces.{Pieces, pieces_of, tagged, tag_of, value_after, valued, carries, values_of, piece_scan, sound, scan_of}
 use Rattle.field.specs.Written.{Each, none, also, Unmarked, Plain, Whole, piece_of, values_with}
-use Rattle.field.specs.declared.Scan.TheVariants.{Sound}
 use Rattle.field.proofs.Cuts.{pieces-mark}
 use Rattle.field.proofs.Heads.{stands-in}
 
@@ -81,7 +80,7 @@ module _ (f : Field) (h : Plain f) where
   pub piece-valued : 1 ≤ length f.value → valued (piece_of f) ≡ true
   piece-valued g = lt-ltb (digit_run (piece_of f) + 1) (length (piece_of f)) (omega (arith, piece-length f.tag f.value, tag-run f.tag f.value))
 
-  pub piece-sound : 1 ≤ length f.value → piece_scan (piece_of f) ≡ Sound
+  pub piece-sound : 1 ≤ length f.value → piece_scan (piece_of f) ≡ sound
   unfolding piece_scan
   piece-sound g = rw (piece-tagged, piece-valued g)
 
@@ -105,12 +104,12 @@ values-pieces tag (also {f} h e) = rw (piece-carries f h tag, piece-value f h, v
 pub values-layout : (tag : ℕ) {fs : List Field} → Each Plain fs → values_of tag (pieces_of (layout fs)) ≡ values_with tag fs
 values-layout tag e = ap (values_of tag) (pieces-layout (unmarked-of e)) ∙ values-pieces tag e
 
-scan-pieces : {fs : List Field} → Each Whole fs → scan_of (map piece_of fs) ≡ Sound
+scan-pieces : {fs : List Field} → Each Whole fs → scan_of (map piece_of fs) ≡ sound
 unfolding scan_of
 scan-pieces none = refl
 scan-pieces (also {f} h e) = rw (piece-sound f h.plain h.some, scan-pieces e)
 
-pub scan-layout : {fs : List Field} → Each Whole fs → scan_of (pieces_of (layout fs)) ≡ Sound
+pub scan-layout : {fs : List Field} → Each Whole fs → scan_of (pieces_of (layout fs)) ≡ sound
 scan-layout e = ap scan_of (pieces-layout (unmarked-of (plain_of e))) ∙ scan-pieces e
 
 -- ---- a piece carries a tag exactly where it begins with the tag's digits and `=`

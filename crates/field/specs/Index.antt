@@ -1,9 +1,8 @@
 -- The index of a body, as it is lent: of each listed tag where the value of its first field stands, how long that is and how often the tag stands.
-use Rattle.std.specs.Prelude.{ℕ, suc, ◌+◌, List, [], ◌∷◌, ◌++◌, map, Bool, cond, get_or, set, eqb, ltb}
+use Rattle.std.specs.Prelude.{ℕ, suc, List, [], ◌∷◌, map, Bool, cond, get_or, set, eqb, ltb, Some, None}
 use Rattle.field.specs.Pieces.{pieces_of, count_of}
-use Rattle.field.specs.Stands.{Place, At, Missing, place_of}
-use Rattle.field.specs.declared.Piece.{Piece}
-use Rattle.field.specs.declared.Piece.TheVariants.{Field, Stray}
+use Rattle.field.specs.Stands.{Piece, Place, At, Missing, place_of}
+use Rattle.field.specs.declared.Column.{Column}
 
 -- the tags that the index keeps, in the order of their columns: those of the header and of the tables
 unfoldable pub listed : List ℕ
@@ -26,7 +25,13 @@ column_of tag = position listed tag
 abbrev pub is_listed : ℕ → Bool
 is_listed tag = ltb (column_of tag) column_count
 
--- ---- the index: the starts, the lengths and the counts, each by columns
+-- ---- the index: a column for each of them
+
+abbrev pub column : ℕ → ℕ → ℕ → Column
+column s n c = record { start = s; len = n; count = c }
+
+abbrev pub unseen : Column
+unseen = column 0 0 0
 
 abbrev pub start_in : Place → ℕ
 start_in Missing = 0
@@ -36,33 +41,27 @@ abbrev pub len_in : Place → ℕ
 len_in Missing = 0
 len_in (At s n) = n
 
-unfoldable pub index_of : List ℕ → List ℕ
-index_of body =
-    map (λ (tag : ℕ). start_in (place_of tag body)) listed
-    ++ (map (λ (tag : ℕ). len_in (place_of tag body)) listed
-    ++ map (λ (tag : ℕ). count_of tag (pieces_of body)) listed)
+-- what the index has of a tag
+abbrev pub told_of : List ℕ → ℕ → Column
+told_of body tag = column (start_in (place_of tag body)) (len_in (place_of tag body)) (count_of tag (pieces_of body))
 
--- what stands in column k
-abbrev pub start_at : List ℕ → ℕ → ℕ
-start_at x k = get_or x k 0
+unfoldable pub index_of : List ℕ → List Column
+index_of body = map (told_of body) listed
 
-abbrev pub len_at : List ℕ → ℕ → ℕ
-len_at x k = get_or x (column_count + k) 0
-
-abbrev pub count_at : List ℕ → ℕ → ℕ
-count_at x k = get_or x (column_count + column_count + k) 0
+-- column k
+abbrev pub column_at : List Column → ℕ → Column
+column_at x k = get_or x k unseen
 
 -- ---- how a pass fills it
 
--- column k counted as c
-abbrev pub set_count : List ℕ → ℕ → ℕ → List ℕ
-set_count x k c = set x (column_count + column_count + k) c
+-- one field more, whose value stands at s and has n bytes: the first is kept, a further one is counted as 2
+abbrev pub more : Column → ℕ → ℕ → Column
+more z s n = cond (eqb z.count 0) (column s n 1) (column z.start z.len 2)
 
--- one field more of column k, whose value stands at s and has n bytes: the first is kept, a further one is counted as 2
-unfoldable pub noted_at : List ℕ → ℕ → ℕ → ℕ → List ℕ
-noted_at x k s n =
-    cond (ltb k column_count) (cond (eqb (count_at x k) 0) (set_count (set (set x k s) (column_count + k) n) k 1) (set_count x k 2)) x
+-- of column k, if k is one
+unfoldable pub noted_at : List Column → ℕ → ℕ → ℕ → List Column
+noted_at x k s n = cond (ltb k column_count) (set x k (more (column_at x k) s n)) x
 
-unfoldable pub noted : List ℕ → Piece → List ℕ
-noted x Stray = x
-noted x (Field u s n) = noted_at x (column_of u) s n
+unfoldable pub noted : List Column → Piece → List Column
+noted x None = x
+noted x (Some f) = noted_at x (column_of f.tag) f.start f.len

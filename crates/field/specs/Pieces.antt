@@ -1,11 +1,12 @@
 -- The fields of a body: the pieces between `|`s ("Finding a message", last paragraph; steps 1, 2 and 5).
-use Rattle.std.specs.Prelude.{ℕ, ◌+◌, min, List, [], ◌∷◌, Bool, false, cond, ◌&&◌, not, length, get_or, take, drop, ltb, eqb}
+use Rattle.std.specs.Prelude.{ℕ, ◌+◌, min, List, [], ◌∷◌, Bool, false, cond, ◌&&◌, not, length, get_or, take, drop, ltb, eqb, Result, Ok, Err}
+use Rattle.std.specs.Result.{result_and}
 use Rattle.std.proofs.Math.Option.{Option, none, some}
 use Rattle.octet.specs.Bytes.{between, same}
 use Rattle.octet.specs.Maybe.{first, unless}
 use Rattle.text.specs.Decimal.{digit_run, digits}
-use Rattle.field.specs.declared.Scan.{Scan}
-use Rattle.field.specs.declared.Scan.TheVariants.{Sound, Malformed, Empty}
+use Rattle.field.specs.declared.Unsound.{Unsound}
+use Rattle.field.specs.declared.Unsound.TheVariants.{Malformed, Empty}
 
 abbrev pub Pieces : Type 0
 Pieces = List (List ℕ)
@@ -68,15 +69,21 @@ count_of tag ps = min 2 (length (values_of tag ps))
 
 -- ---- step 5
 
+-- no fault, or the first one
+abbrev pub Scan : Type 0
+Scan = Result (Unit {0}) Unsound
+
+abbrev pub sound : Scan
+sound = Ok tt
+
 -- "First malformed field: Reject 0; without a value: Reject 4 with its tag"
 unfoldable pub piece_scan : List ℕ → Scan
-piece_scan p = cond (tagged p) (cond (valued p) Sound (Empty (tag_of p))) Malformed
+piece_scan p = cond (tagged p) (cond (valued p) sound (Err (Empty (tag_of p)))) (Err Malformed)
 
+-- the first of two
 abbrev pub and_then : Scan → Scan → Scan
-and_then Sound rest = rest
-and_then Malformed rest = Malformed
-and_then (Empty tag) rest = Empty tag
+and_then sooner later = result_and sooner later
 
 unfoldable pub scan_of : Pieces → Scan
-scan_of [] = Sound
+scan_of [] = sound
 scan_of (p ∷ ps) = let rest = scan_of ps in and_then (piece_scan p) rest

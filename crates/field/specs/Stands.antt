@@ -1,17 +1,22 @@
 -- Where the fields of a body stand: each piece by its place, and the walk from one piece to the next.
-use Rattle.std.specs.Prelude.{ℕ, ◌+◌, ◌-◌, min, List, [], ◌∷◌, cond, length, drop, eqb}
+use Rattle.std.specs.Prelude.{ℕ, ◌+◌, ◌-◌, min, List, [], ◌∷◌, cond, length, drop, eqb, Option, Some, None, Err}
 use Rattle.octet.specs.Bytes.{part, until_byte}
 use Rattle.text.specs.Decimal.{digit_run}
-use Rattle.field.specs.Pieces.{Pieces, pieces_of, tagged, tag_of}
-use Rattle.field.specs.declared.Scan.{Scan}
-use Rattle.field.specs.declared.Scan.TheVariants.{Sound, Malformed, Empty}
-use Rattle.field.specs.declared.Piece.{Piece}
-use Rattle.field.specs.declared.Piece.TheVariants.{Field, Stray}
+use Rattle.field.specs.Pieces.{Pieces, pieces_of, tagged, tag_of, Scan, sound}
+use Rattle.field.specs.declared.Unsound.TheVariants.{Malformed, Empty}
+use Rattle.field.specs.declared.Field.{Field}
 use Rattle.field.specs.declared.Step.{Step}
 
--- a piece that begins at a place: a field, by its tag and where its value stands, or none
+-- a piece: a field, by its tag and where its value stands, or none
+abbrev pub Piece : Type 0
+Piece = Option Field
+
+abbrev pub field : ℕ → ℕ → ℕ → Piece
+field u s n = Some (record { tag = u; start = s; len = n })
+
+-- a piece that begins at a place
 unfoldable pub piece_at : ℕ → List ℕ → Piece
-piece_at at p = cond (tagged p) (Field (tag_of p) (at + (digit_run p + 1)) (length p - (digit_run p + 1))) Stray
+piece_at at p = cond (tagged p) (field (tag_of p) (at + (digit_run p + 1)) (length p - (digit_run p + 1))) None
 
 -- pieces one after another, the first of them at a place, a `|` after each
 unfoldable pub located : ℕ → Pieces → List Piece
@@ -26,8 +31,8 @@ pub data Place : Type 0 where
   Missing : Place
 
 abbrev pub or_here : ℕ → Piece → Place → Place
-or_here tag Stray later = later
-or_here tag (Field u s n) later = cond (eqb u tag) (At s n) later
+or_here tag None later = later
+or_here tag (Some f) later = cond (eqb f.tag tag) (At f.start f.len) later
 
 unfoldable pub place_from : ℕ → List Piece → Place
 place_from tag [] = Missing
@@ -48,10 +53,10 @@ step_of at body = by (until_byte 1 (drop at body))
 
 -- the fault of a piece
 abbrev pub piece_fault : Piece → Scan
-piece_fault Stray = Malformed
-piece_fault (Field u s n) = cond (eqb n 0) (Empty u) Sound
+piece_fault None = Err Malformed
+piece_fault (Some f) = cond (eqb f.len 0) (Err (Empty f.tag)) sound
 
 -- whether a piece is of that tag, as 1 or 0
 abbrev pub hits : ℕ → Piece → ℕ
-hits tag Stray = 0
-hits tag (Field u s n) = cond (eqb u tag) 1 0
+hits tag None = 0
+hits tag (Some f) = cond (eqb f.tag tag) 1 0

@@ -1,83 +1,22 @@
--- The tests of a lawful slot, put together from what each of them said: an early return names the tests up to its own.
---     texts-by, sums_by, lawful-by     a fill's definition, test by test; names-by, codes-by, entry-by     an entry's
+-- What the tests of a lawful slot come to.
 --     no-entry, no-fill     no slot is both
 --     lawful-entry, lawful-fill     what is asked of a slot, by its first byte
 --     lawful-parts     what is asked of a fill, one by one
 --     lawful-sums     what the sums of a lawful fill are
 use mathlib.Core.Path.{◌≡◌, ap}
-use mathlib.Core.Bool.{Bool, true, false, ◌&&◌}
+use mathlib.Core.Bool.{true, false, ◌&&◌}
 use Prim.Native.Nat.{ℕ, ◌≤◌}
 use lib.Dec.{leb, eqb}
-use lib.ListN.{get_or}
 use Rattle.octet.specs.Bytes.{between}
 use borrow.Author.Tests.{leb-true, eqb-true}
 use Rattle.octet.proofs.Cases.{and_both}
 use Rattle.value.specs.Value.{is_time}
-use Rattle.fill.specs.Slot.{
-  Slot,
-  is_fill,
-  is_entry,
-  fill_mark,
-  entry_mark,
-  mark_of,
-  exec_of,
-  order_of,
-  symbol_of,
-  side_of,
-  quantity_of,
-  shares_of,
-  price_of,
-  cum_of,
-  time_of,
-  text_lawful,
-  texts_lawful,
-  sums_lawful,
-  most_price,
-  fill_lawful,
-}
-use Rattle.fill.specs.Entry.{
-  trade_of,
-  number_of,
-  entry_side_of,
-  transaction_of,
-  correction_of,
-  original_of,
-  entry_shares_of,
-  entry_price_of,
-  entry_time_of,
-  longest_original,
-  names_lawful,
-  codes_lawful,
-  entry_lawful,
-}
+use Rattle.fill.specs.Slot.{Slot, is_fill, is_entry, fill_mark, entry_mark, mark_of, side_of, quantity_of, shares_of, price_of, cum_of, time_of, texts_lawful, sums_lawful, most_price, fill_lawful}
+use Rattle.fill.specs.Entry.{entry_lawful}
 use Rattle.fill.specs.Booked.{slot_lawful}
-use Rattle.answer.specs.Numbers.{nine_digits, most_contracts}
+use Rattle.answer.specs.Numbers.{most_contracts}
 
 module _ (s : Slot) where
-  pub texts-by : {a b d : Bool} → text_lawful (exec_of s) ≡ a → text_lawful (order_of s) ≡ b → text_lawful (symbol_of s) ≡ d → a && b && d ≡ texts_lawful s
-  texts-by ea eb ed = cc
-
-  pub sums_by : {a b d e : Bool} → leb 1 (shares_of s) ≡ a → leb (shares_of s) (cum_of s) ≡ b → leb (cum_of s) (quantity_of s) ≡ d → leb (quantity_of s) most_contracts ≡ e
-      → a && b && d && e ≡ sums_lawful s
-  sums_by ea eb ed ee = cc
-
-  pub lawful-by : {a b d e f : Bool} → texts_lawful s ≡ a → between 1 2 (side_of s) ≡ b → sums_lawful s ≡ d → leb (price_of s) most_price ≡ e → is_time (time_of s) ≡ f
-      → a && b && d && e && f ≡ fill_lawful s
-  unfolding fill_lawful
-  lawful-by ea eb ed ee ef = cc
-
-  pub names-by : {a b d : Bool} → text_lawful (trade_of s) ≡ a → text_lawful (original_of s) ≡ b → leb (get_or (original_of s) 0 0) longest_original ≡ d → a && b && d ≡ names_lawful s
-  names-by ea eb ed = cc
-
-  pub codes-by : {a b d e : Bool} → leb (number_of s) nine_digits ≡ a → between 1 2 (entry_side_of s) ≡ b → leb (transaction_of s) 2 ≡ d → between 1 5 (correction_of s) ≡ e
-      → a && b && d && e ≡ codes_lawful s
-  codes-by ea eb ed ee = cc
-
-  pub entry-by : {a b d e f : Bool} → names_lawful s ≡ a → codes_lawful s ≡ b → between 1 most_contracts (entry_shares_of s) ≡ d → leb (entry_price_of s) most_price ≡ e
-      → is_time (entry_time_of s) ≡ f → a && b && d && e && f ≡ entry_lawful s
-  unfolding entry_lawful
-  entry-by ea eb ed ee ef = cc
-
   -- any slot, by its first byte
   pub no-entry : is_fill s ≡ true → is_entry s ≡ false
   no-entry e = ap (λ (n : ℕ). eqb n entry_mark) (eqb-true (mark_of s) fill_mark e)

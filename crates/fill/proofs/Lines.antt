@@ -9,8 +9,7 @@ use Prim.Native.Nat.{ℕ, suc, ◌+◌, ◌≤◌, ◌<◌, ◌^◌, ◌/◌}
 use native.Mathlib.Nat.{zero-add, le_trans}
 use native.Mathlib.Omega.{arith}
 use lib.Dec.{lit<}
-use lib.ListN.{get_or, get_or-eq_default, length, take, drop, length-append, length-take, length-drop}
-use lib.Seq.{take-length, take-take}
+use lib.ListN.{get_or, get_or-eq_default, length, length-append, length-take, length-drop}
 use Rattle.octet.specs.Bytes.{bytes_of, between, all_in, part}
 use Rattle.octet.specs.Places.{number_in, big_endian}
 use Rattle.octet.proofs.Cases.{le-or-lt, of-cond, and-make}
@@ -23,35 +22,24 @@ use Rattle.text.specs.Writing.{puts, held, empty}
 use Rattle.text.proofs.Decimals.{decimal-length, fixed-length}
 use Rattle.text.proofs.Puts.{puts-puts, held-short}
 use Rattle.text.specs.declared.Text.{Text}
-use Rattle.fill.specs.Slot.{Slot, is_entry, width_of, place_of, line_room, exec_of, order_of, symbol_of, side_of, shares_of, price_of, time_of, line_feed, fill_line}
+use Rattle.fill.specs.Slot.{Slot, is_entry, width_of, place_of, line_room, exec_of, order_of, symbol_of, side_of, shares_of, price_of, line_feed, fill_line}
 use Rattle.fill.specs.Entry.{entry_width_of, entry_place_of, trade_of, number_of, entry_side_of, transaction_of, entry_line}
 use Rattle.fill.specs.Booked.{line_of}
 
--- a space and a word more
-pub word-put : (t x y : Text) (w v : List ℕ) → x ≡ puts t (bytes_of " ") → w ≡ v → y ≡ puts x (take (length w) w) → y ≡ puts t (bytes_of " " ++ v)
-word-put t x y w v ex ew ey =
-    ey
-    ∙ ap (puts x) (take-length w ∙ ew)
-    ∙ ap (λ (z : Text). puts z v) ex
-    ∙ puts-puts t (bytes_of " ") v
-
-pub time-cut : (s : Slot) → take 21 (time_of s) ≡ time_of s
-time-cut s = take-take 21 21 (drop (place_of 8) s) (omega arith)
-
 -- an entry's, word by word
-six-words : (first space u v w x y last : List ℕ)
-    → puts (puts (puts (puts (puts (puts (puts empty first) (space ++ u)) (space ++ v)) (space ++ w)) (space ++ x)) (space ++ y)) last
-    ≡ puts empty ((first ++ space ++ (u ++ space ++ (v ++ space ++ (w ++ space ++ (x ++ space ++ y))))) ++ last)
-six-words first space u v w x y last = simp (puts-puts, append_assoc)
+six-words : (t : Text) (first space u v w x y last : List ℕ)
+    → puts (puts (puts (puts (puts (puts (puts t first) (space ++ u)) (space ++ v)) (space ++ w)) (space ++ x)) (space ++ y)) last
+    ≡ puts t ((first ++ space ++ (u ++ space ++ (v ++ space ++ (w ++ space ++ (x ++ space ++ y))))) ++ last)
+six-words t first space u v w x y last = simp (puts-puts, append_assoc)
 
-pub entry-words : (n : ℕ) (s : Slot) (a b d e f g h i : Text) (trade : List ℕ) (number side transaction : ℕ)
-    → a ≡ empty → b ≡ puts a (bytes_of "C") → d ≡ puts b (bytes_of " " ++ decimal n) → trade ≡ trade_of s → e ≡ puts d (bytes_of " " ++ text_of trade)
+pub entry-words : (n : ℕ) (s : Slot) (t b d e f g h i : Text) (entry number side transaction : ℕ) (trade : List ℕ)
+    → b ≡ puts t (bytes_of "C") → entry ≡ n → d ≡ puts b (bytes_of " " ++ decimal entry) → trade ≡ trade_of s → e ≡ puts d (bytes_of " " ++ text_of trade)
     → number ≡ number_of s → f ≡ puts e (bytes_of " " ++ decimal number) → side ≡ entry_side_of s → g ≡ puts f (bytes_of " " ++ decimal side)
-    → transaction ≡ transaction_of s → h ≡ puts g (bytes_of " " ++ decimal transaction) → i ≡ puts h line_feed → i ≡ puts empty (entry_line n s)
+    → transaction ≡ transaction_of s → h ≡ puts g (bytes_of " " ++ decimal transaction) → i ≡ puts h line_feed → i ≡ puts t (entry_line n s)
 unfolding entry_line
-entry-words n s a b d e f g h i trade number side transaction ea eb ed et ee en ef es eg ex eh ei =
-    let line = six-words (bytes_of "C") (bytes_of " ") (decimal n) (text_of (trade_of s)) (decimal (number_of s)) (decimal (entry_side_of s)) (decimal (transaction_of s)) line_feed in
-    rw (ei, eh, ex, eg, es, ef, en, ee, et, ed, eb, ea) line
+entry-words n s t b d e f g h i entry number side transaction trade eb en ed et ee ek ef es eg ex eh ei =
+    let line = six-words t (bytes_of "C") (bytes_of " ") (decimal n) (text_of (trade_of s)) (decimal (number_of s)) (decimal (entry_side_of s)) (decimal (transaction_of s)) line_feed in
+    rw (ei, eh, ex, eg, es, ef, ek, ee, et, ed, en, eb) line
 
 -- any slot's, by its first byte
 pub line-entry : (n : ℕ) (s : Slot) → is_entry s ≡ true → line_of n s ≡ entry_line n s

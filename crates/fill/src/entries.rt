@@ -1,6 +1,6 @@
 // An entry is a slot: a byte that says that it is one, and its body as the C note has it after E and O.
 ghost use Rattle.std.specs.Prelude.{◌≡◌};
-ghost use Rattle.text.specs.Writing.{empty, puts};
+ghost use Rattle.text.specs.Writing.{puts};
 ghost use Rattle.fill.specs.Entry.{entry_of, entry_slot, trade_of, number_of, entry_side_of, transaction_of, correction_of, original_of};
 ghost use Rattle.fill.specs.Entry.{entry_shares_of, entry_price_of, entry_time_of, key_of, names_lawful, codes_lawful, entry_lawful, entry_line};
 
@@ -62,19 +62,19 @@ fn number_of(s: &[u8]) -> u32
 fn side_of(s: &[u8]) -> u32
     ensures { result ≡ entry_side_of s.now }
 {
-    octet::byte_at(s, SIDE_AT) as u32
+    u32::from(octet::byte_at(s, SIDE_AT))
 }
 
 fn transaction_of(s: &[u8]) -> u32
     ensures { result ≡ transaction_of s.now }
 {
-    octet::byte_at(s, TRANSACTION_AT) as u32
+    u32::from(octet::byte_at(s, TRANSACTION_AT))
 }
 
 fn correction_of(s: &[u8]) -> u32
     ensures { result ≡ correction_of s.now }
 {
-    octet::byte_at(s, CORRECTION_AT) as u32
+    u32::from(octet::byte_at(s, CORRECTION_AT))
 }
 
 fn original_of(s: &[u8]) -> &[u8]
@@ -135,69 +135,42 @@ const LONGEST_ORIGINAL: u8 = 20;
 fn names_lawful(s: &[u8]) -> bool
     ensures { result ≡ names_lawful s.now }
 {
-    if !is_text(trade_of(s)) {
-        return false;
-    }
-    if !is_text(original_of(s)) {
-        return false;
-    }
-    octet::byte_at(original_of(s), 0) <= LONGEST_ORIGINAL
+    is_text(trade_of(s))
+        && is_text(original_of(s))
+        && octet::byte_at(original_of(s), 0) <= LONGEST_ORIGINAL
 }
 
 // CorrectionNum has one to nine digits; 54 is 1 or 2, 20 is 0 to 2, 9020 is 1 to 5.
 fn codes_lawful(s: &[u8]) -> bool
     ensures { result ≡ codes_lawful s.now }
 {
-    if NINE_DIGITS < number_of(s) {
-        return false;
-    }
-    let side = side_of(s);
-    if side < 1 {
-        return false;
-    }
-    if 2 < side {
-        return false;
-    }
-    if 2 < transaction_of(s) {
-        return false;
-    }
-    let correction = correction_of(s);
-    if correction < 1 {
-        return false;
-    }
-    correction <= 5
+    number_of(s) <= NINE_DIGITS
+        && matches!(side_of(s), 1 | 2)
+        && matches!(transaction_of(s), 0..=2)
+        && matches!(correction_of(s), 1..=5)
 }
 
 // Whether an entry's body is so formed, with values that a Trade Cancel/Correct can have.
+#[tactic(auto, unfolding(crate::specs::Entry::entry_lawful))]
 pub(crate) fn is_lawful_entry(s: &[u8]) -> bool
     ensures { result ≡ entry_lawful s.now }
 {
-    if !names_lawful(s) {
-        return false;
-    }
-    if !codes_lawful(s) {
-        return false;
-    }
-    let shares = shares_of(s);
-    if shares < 1 {
-        return false;
-    }
-    if MOST_CONTRACTS < shares {
-        return false;
-    }
-    if MOST_PRICE < price_of(s) {
-        return false;
-    }
-    value::is_time(time_of(s))
+    names_lawful(s)
+        && codes_lawful(s)
+        && matches!(shares_of(s), 1..=MOST_CONTRACTS)
+        && price_of(s) <= MOST_PRICE
+        && value::is_time(time_of(s))
 }
 
-// The line of entry n, with its line feed: "`C`, the number and the four key fields".
-pub(crate) fn entry_text(n: u32, s: &[u8]) -> Text
-    ensures { result ≡ puts empty (entry_line n s.now) }
+// The line of entry n more, with its line feed: "`C`, the number and the four key fields".
+pub(crate) fn entry_text(t: &mut Text, n: u32, s: &[u8])
+    ensures { t.new ≡ puts t.old (entry_line n s.now) }
 {
-    let number = number_word(Text::new().put(b'C'), n as u64);
-    let trade = text_word(number, trade_of(s));
-    let correction = number_word(trade, number_of(s) as u64);
-    let side = number_word(correction, side_of(s) as u64);
-    number_word(side, transaction_of(s) as u64).put(b'\n')
+    t.put(b'C');
+    number_word(t, u64::from(n));
+    text_word(t, trade_of(s));
+    number_word(t, u64::from(number_of(s)));
+    number_word(t, u64::from(side_of(s)));
+    number_word(t, u64::from(transaction_of(s)));
+    t.put(b'\n');
 }

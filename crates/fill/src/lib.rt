@@ -10,7 +10,7 @@ ghost use Rattle.octet.specs.Padded.{text_of};
 ghost use Rattle.parts.specs.Relaid.{filled};
 ghost use Rattle.parts.specs.Parts.{text_field};
 ghost use Rattle.text.specs.Decimal.{decimal};
-ghost use Rattle.text.specs.Writing.{empty, puts};
+ghost use Rattle.text.specs.Writing.{puts};
 ghost use Rattle.fill.specs.Slot.{fill_of, width_of, full_time, body_of, slot_of, is_fill, is_entry};
 ghost use Rattle.fill.specs.Slot.{exec_of, order_of, symbol_of, side_of, quantity_of, shares_of, price_of, cum_of, time_of};
 ghost use Rattle.fill.specs.Slot.{text_lawful, texts_lawful, sums_lawful, fill_lawful, line_room, line_least, names_of, figures_of, fill_line};
@@ -91,7 +91,7 @@ pub fn symbol_of(s: &[u8]) -> &[u8]
 pub fn side_of(s: &[u8]) -> u32
     ensures { result ≡ side_of s.now }
 {
-    octet::byte_at(s, SIDE_AT) as u32
+    u32::from(octet::byte_at(s, SIDE_AT))
 }
 
 fn quantity_of(s: &[u8]) -> u32
@@ -197,13 +197,7 @@ fn is_text(f: &[u8]) -> bool
 fn texts_lawful(s: &[u8]) -> bool
     ensures { result ≡ texts_lawful s.now }
 {
-    if !is_text(exec_of(s)) {
-        return false;
-    }
-    if !is_text(order_of(s)) {
-        return false;
-    }
-    is_text(symbol_of(s))
+    is_text(exec_of(s)) && is_text(order_of(s)) && is_text(symbol_of(s))
 }
 
 // LastShares, CumQty and OrderQty, each at least the one before.
@@ -213,101 +207,89 @@ fn sums_lawful(s: &[u8]) -> bool
     let shares = shares_of(s);
     let cum = cum_of(s);
     let quantity = quantity_of(s);
-    if shares < 1 {
-        return false;
-    }
-    if cum < shares {
-        return false;
-    }
-    if quantity < cum {
-        return false;
-    }
-    quantity <= MOST_CONTRACTS
+    1 <= shares && shares <= cum && cum <= quantity && quantity <= MOST_CONTRACTS
 }
 
 // Whether a fill's body is so formed, with values that a report can have.
+#[tactic(auto, unfolding(crate::specs::Slot::fill_lawful))]
 fn is_lawful_fill(s: &[u8]) -> bool
     ensures { result ≡ fill_lawful s.now }
 {
-    if !texts_lawful(s) {
-        return false;
-    }
-    let side = side_of(s);
-    if side < 1 {
-        return false;
-    }
-    if 2 < side {
-        return false;
-    }
-    if !sums_lawful(s) {
-        return false;
-    }
-    if MOST_PRICE < price_of(s) {
-        return false;
-    }
-    value::is_time(time_of(s))
+    texts_lawful(s)
+        && matches!(side_of(s), 1 | 2)
+        && sums_lawful(s)
+        && price_of(s) <= MOST_PRICE
+        && value::is_time(time_of(s))
 }
 
 // Whether a slot is lawful: a fill, or an entry.
+#[tactic(auto, unfolding(crate::specs::Booked::slot_lawful))]
 pub fn is_lawful(s: &[u8]) -> bool
     ensures { result ≡ slot_lawful s.now }
 {
     if is_entry(s) {
-        return entries::is_lawful_entry(s);
+        entries::is_lawful_entry(s)
+    } else {
+        is_lawful_fill(s)
     }
-    is_lawful_fill(s)
 }
 
 // A space and the text of a field more.
-fn text_word(t: Text, f: &[u8]) -> Text
-    ensures { result ≡ puts t (bytes_of " " ++ text_of f.now) }
+fn text_word(t: &mut Text, f: &[u8])
+    ensures { t.new ≡ puts t.old (bytes_of " " ++ text_of f.now) }
 {
-    let w = octet::text_of(f);
-    t.put(b' ').part(w, w.len())
+    t.put(b' ');
+    t.all(octet::text_of(f));
 }
 
 // A space and a number more.
-fn number_word(t: Text, n: u64) -> Text
-    ensures { result ≡ puts t (bytes_of " " ++ decimal n) }
+fn number_word(t: &mut Text, n: u64)
+    ensures { t.new ≡ puts t.old (bytes_of " " ++ decimal n) }
 {
-    t.put(b' ').decimal(n)
+    t.put(b' ');
+    t.decimal(n);
 }
 
-// "number, ExecID, OrderID, symbol".
-fn names(n: u32, s: &[u8]) -> Text
-    ensures { result ≡ puts empty (names_of n s.now) }
+// "number, ExecID, OrderID, symbol" more.
+fn names(t: &mut Text, n: u32, s: &[u8])
+    ensures { t.new ≡ puts t.old (names_of n s.now) }
 {
-    let number = Text::new().decimal(n as u64);
-    let exec = text_word(number, exec_of(s));
-    let order = text_word(exec, order_of(s));
-    text_word(order, symbol_of(s))
+    t.decimal(u64::from(n));
+    text_word(t, exec_of(s));
+    text_word(t, order_of(s));
+    text_word(t, symbol_of(s));
 }
 
-// "side, LastShares, price with four decimals", each with a space before it.
-fn figures(t: Text, s: &[u8]) -> Text
-    ensures { result ≡ puts t (bytes_of " " ++ figures_of s.now) }
+// "side, LastShares, price with four decimals" more, each with a space before it.
+fn figures(t: &mut Text, s: &[u8])
+    ensures { t.new ≡ puts t.old (bytes_of " " ++ figures_of s.now) }
 {
-    let side = number_word(t, side_of(s) as u64);
-    let shares = number_word(side, shares_of(s) as u64);
-    shares.put(b' ').price(price_of(s))
+    number_word(t, u64::from(side_of(s)));
+    number_word(t, u64::from(shares_of(s)));
+    t.put(b' ');
+    t.price(price_of(s));
 }
 
-// The line of fill n, with its line feed.
-fn fill_text(n: u32, s: &[u8]) -> Text
-    ensures { result ≡ puts empty (fill_line n s.now) }
+// The line of fill n more, with its line feed.
+fn fill_text(t: &mut Text, n: u32, s: &[u8])
+    ensures { t.new ≡ puts t.old (fill_line n s.now) }
 {
-    let price = figures(names(n, s), s);
-    price.put(b' ').part(time_of(s), TIME).put(b'\n')
+    names(t, n, s);
+    figures(t, s);
+    t.put(b' ');
+    t.all(time_of(s));
+    t.put(b'\n');
 }
 
-// The line of slot n: a fill's, or an entry's.
-fn line_text(n: u32, s: &[u8]) -> Text
-    ensures { result ≡ puts empty (line_of n s.now) }
+// The line of slot n more: a fill's, or an entry's.
+fn line_text(t: &mut Text, n: u32, s: &[u8])
+    ensures { t.new ≡ puts t.old (line_of n s.now) }
 {
     if is_entry(s) {
-        return entries::entry_text(n, s);
+        entries::entry_text(t, n, s);
+    } else {
+        fill_text(t, n, s);
     }
-    fill_text(n, s)
 }
 
 // No line is longer: "line buffer under 128 bytes".
@@ -327,5 +309,7 @@ pub fn write_line(n: u32, s: &[u8], line: &mut [u8]) -> usize
     ensures value { result ≡ cond (fits_at line.old 0 (line_of n s.now)) (length (line_of n s.now)) 0 }
     ensures line_bound { length (line_of n s.now) ≤ line_room }
 {
-    line_text(n, s).place(line, 0)
+    let mut t = Text::new();
+    line_text(&mut t, n, s);
+    t.place(line, 0)
 }

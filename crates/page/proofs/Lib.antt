@@ -1,3 +1,3 @@
-pub mod Shown
+pub mod Showing
 pub mod Upto
 pub mod Unique

@@ -1,15 +1,15 @@
 -- The totals page: what it answers, how many rows it writes, and the rows after it. "fewer than 128 rows" is refused; "rows beyond the last order are left as found".
-use Rattle.std.specs.Prelude.{ℕ, zero, suc, min, ◌≡◌, List, [], ◌∷◌, ◌++◌, Bool, cond, length, drop, get_or, replicate, ltb}
+use Rattle.std.specs.Prelude.{ℕ, zero, suc, min, ◌≡◌, List, [], ◌∷◌, ◌++◌, Bool, cond, length, drop, get_or, replicate, ltb, Result, Ok, Err}
 use Rattle.octet.specs.Splice.{splice}
 use Rattle.fill.specs.Slot.{Slot, order_of}
 use Rattle.book.specs.Rows.{Row, head_of, waits_in}
 use Rattle.book.specs.Memory.{slots_in, rows_in}
 use Rattle.book.specs.Place.{most_orders}
 use Rattle.queue.specs.declared.Marks.{Marks}
+use Rattle.answer.specs.declared.Refusal.{Refusal}
 use Rattle.answer.specs.declared.Refusal.TheVariants as refusal
 use Rattle.page.specs.declared.OrderRow.{OrderRow}
-use Rattle.page.specs.declared.Paged.{Paged}
-use Rattle.page.specs.declared.Paged.TheVariants as paged
+use Rattle.page.specs.declared.Shown.{Shown}
 
 -- as many rows as there can be orders are asked for
 abbrev pub few_rows : ℕ → Bool
@@ -19,9 +19,15 @@ few_rows lent = ltb lent most_orders
 abbrev pub shown_of : Marks → ℕ
 shown_of marks = min marks.load.orders most_orders
 
--- how many orders there are, and the day's sum
+-- what a page answers: how many orders there are, and the day's sum; or a refusal
+abbrev pub Paged : Type 0
+Paged = Result Shown Refusal
+
+abbrev pub shows : ℕ → ℕ → Paged
+shows orders day = Ok (record { orders = orders; day = day })
+
 unfoldable pub told_of : Marks → ℕ → Paged
-told_of marks lent = cond (few_rows lent) (paged.Refused refusal.ShortBuffer) (paged.Shown (shown_of marks) marks.day)
+told_of marks lent = cond (few_rows lent) (Err refusal.ShortBuffer) (shows (shown_of marks) marks.day)
 
 -- how many rows are written
 unfoldable pub due_of : Marks → ℕ → ℕ

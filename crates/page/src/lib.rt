@@ -4,7 +4,7 @@
 
 ghost use Rattle.std.specs.Prelude.{◌≡◌, ◌≤◌};
 ghost use Rattle.book.specs.Place.{most_orders};
-ghost use Rattle.page.specs.Page.{row_of, shown_of, told_of, due_of, Pages};
+ghost use Rattle.page.specs.Page.{row_of, shown_of, told_of, Pages};
 
 use answer::Refusal;
 use book::{BOOK, ORDERS};
@@ -18,11 +18,11 @@ pub struct OrderRow {
     pub waiting: u32,
 }
 
-// How many orders there are, and the day's sum; or a refusal.
+// How many orders there are, and the day's sum.
 #[derive(Clone, Copy)]
-pub enum Paged {
-    Refused(Refusal),
-    Shown(u32, u32),
+pub struct Shown {
+    pub orders: u32,
+    pub day: u32,
 }
 
 // As many rows are lent at least, of however few orders.
@@ -32,38 +32,27 @@ pub const ROWS: usize = book::ROWS;
 fn shown_of(marks: Marks) -> u32
     ensures { (result ≡ shown_of marks) × (result ≤ most_orders) }
 {
-    if marks.load.orders < ORDERS {
-        return marks.load.orders;
-    }
-    ORDERS
+    marks.load.orders.min(ORDERS)
 }
 
 // What a page answers, by how many rows are lent.
-pub fn told(marks: Marks, lent: usize) -> Paged
+pub fn told(marks: Marks, lent: usize) -> Result<Shown, Refusal>
     ensures { result ≡ told_of marks lent }
 {
     if lent < ROWS {
-        return Paged::Refused(Refusal::ShortBuffer);
+        return Err(Refusal::ShortBuffer);
     }
-    Paged::Shown(shown_of(marks), marks.day)
-}
-
-// How many rows are to be written: none where it is refused, and never more than there are.
-fn due(marks: Marks, lent: usize) -> usize
-    ensures { (result ≡ due_of marks lent) × (result ≤ lent) }
-{
-    if lent < ROWS {
-        return 0;
-    }
-    shown_of(marks) as usize
+    Ok(Shown {
+        orders: shown_of(marks),
+        day: marks.day,
+    })
 }
 
 // The row of order i, from 0: its OrderID stands in its first fill.
 pub fn row_of(marks: Marks, book: &[u8; BOOK], i: usize) -> OrderRow
     ensures { result ≡ row_of marks book.now i }
 {
-    let load = marks.load;
-    let row = book::row_in(book, load.orders as usize, i);
+    let row = book::row_in(book, marks.load.orders as usize, i);
     let head = book::head_of(book, marks.last as usize, row);
     let mut id = [0u8; 31];
     octet::copy_into(&mut id, 0, fill::order_of(head));
@@ -74,14 +63,12 @@ pub fn row_of(marks: Marks, book: &[u8; BOOK], i: usize) -> OrderRow
 }
 
 // Writes the page over the front of the rows. What is behind the last order stays, and all of it where it is refused.
-pub fn page(marks: Marks, book: &[u8; BOOK], rows: &mut [OrderRow]) -> Paged
+pub fn page(marks: Marks, book: &[u8; BOOK], rows: &mut [OrderRow]) -> Result<Shown, Refusal>
     ensures { Pages marks book.now rows.old result rows.new }
 {
-    let n = due(marks, rows.len());
-    let mut i = 0;
-    while i < n {
+    let shown = told(marks, rows.len())?;
+    for i in 0..shown.orders as usize {
         rows[i] = row_of(marks, book, i);
-        i += 1;
     }
-    told(marks, rows.len())
+    Ok(shown)
 }

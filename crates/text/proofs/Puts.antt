@@ -1,5 +1,6 @@
 -- Bytes put to a text.
 --     puts_none, puts-puts     nothing more, and more after more
+--     putting     these, and those of lists that go with them
 --     held_more     what a text holds once more is put to it, cut to the room
 --     held-puts, held-short     what an empty text holds once bytes are put to it, and where they are few
 --     puts-fits, puts-length, put_front     bytes for which there is room are written over, there are as many as before, and what is put from the start is the front
@@ -22,6 +23,9 @@ pub puts-puts : (t : Text) (xs ys : List ℕ) → puts (puts t xs) ys ≡ puts t
 unfolding puts
 puts-puts t [] ys = refl
 puts-puts t (x ∷ xs) ys = puts-puts (put1 t x) xs ys
+
+-- what is put piece by piece is put at once
+pub ruleset putting = (puts_none, puts-puts, append_assoc, append-nil)
 
 -- one byte: it is there where there is room, and the length of the array stays
 one : (t : Text) (b : ℕ) → length t.bytes ≡ room → (length (put1 t b).bytes ≡ room) × (held (put1 t b) ≡ take room (held t ++ b ∷ []))

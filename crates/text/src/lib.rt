@@ -145,6 +145,7 @@ impl Text {
     }
 
     // A "price with four decimals" more, of ten-thousandths.
+    #[tactic(auto, using(crate::proofs::Puts::putting), unfolding(crate::specs::Decimal::price_text))]
     pub fn price(&mut self, p: u64)
         ensures { self.new ≡ puts self.old (price_text p) }
     {
@@ -154,6 +155,7 @@ impl Text {
     }
 
     // tag=
+    #[tactic(auto, using(crate::proofs::Puts::putting))]
     fn tag(&mut self, tag: u32)
         ensures { self.new ≡ puts self.old (decimal tag ++ bytes_of "=") }
     {
@@ -162,6 +164,7 @@ impl Text {
     }
 
     // tag=value|, where the value is the first n bytes of v.
+    #[tactic(auto, using(crate::proofs::Puts::putting), unfolding(crate::specs::Fields::field_bytes))]
     pub fn field(&mut self, tag: u32, v: &[u8], n: usize)
         ensures { self.new ≡ puts self.old (field_bytes (tag is take n v.now)) }
     {
@@ -171,6 +174,7 @@ impl Text {
     }
 
     // tag=n|
+    #[tactic(auto, using(crate::proofs::Puts::putting), unfolding(crate::specs::Fields::field_bytes))]
     pub fn number(&mut self, tag: u32, n: u32)
         ensures { self.new ≡ puts self.old (field_bytes (tag is decimal n)) }
     {
@@ -180,6 +184,7 @@ impl Text {
     }
 
     // tag=x|
+    #[tactic(auto, using(crate::proofs::Puts::putting), unfolding(crate::specs::Fields::field_bytes))]
     pub fn letter(&mut self, tag: u32, x: u8)
         ensures { self.new ≡ puts self.old (field_bytes (tag is x ∷ [])) }
     {

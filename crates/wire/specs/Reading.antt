@@ -1,5 +1,5 @@
 -- "What we write our reader reads back" field for field: what is asked of what is given, and what is then read.
-use Rattle.std.specs.Prelude.{ℕ, ◌^◌, ◌≤◌, ◌<◌, ◌≡◌, List, [], ◌∷◌, ◌++◌, length, take}
+use Rattle.std.specs.Prelude.{ℕ, ◌^◌, ◌≤◌, ◌<◌, ◌≡◌, List, [], ◌∷◌, ◌++◌, length, take, Ok}
 use Rattle.std.proofs.Math.Option.{some}
 use Rattle.octet.specs.Bytes.{until_byte}
 use Rattle.text.specs.Decimal.{decimal}
@@ -8,9 +8,7 @@ use Rattle.frame.specs.Finding.{found_in, body_in}
 use Rattle.frame.specs.declared.Found.TheVariants.{Framed}
 use Rattle.field.specs.Pieces.{Pieces, pieces_of, values_of, first_of, text_at, scan_of}
 use Rattle.field.specs.Written.{values_with}
-use Rattle.field.specs.declared.Scan.TheVariants.{Sound}
 use Rattle.value.specs.Readers.{number_read}
-use Rattle.value.specs.declared.Number.TheVariants.{Value}
 use Rattle.answer.specs.Setup.{ours, theirs}
 use Rattle.answer.specs.declared.Setup.{Setup}
 use Rattle.wire.specs.declared.Say.{Say}
@@ -53,11 +51,11 @@ pub record ReadsBack (m : List ℕ) (fields : List Field) : Type 0 where
   pub framed : (rest : List ℕ) → found_in (m ++ rest) ≡ Framed (length m)
   pub body : (rest : List ℕ) → body_in (length m) (m ++ rest) ≡ layout fields
   -- each piece of the body is a field, and of every tag the values are those that were laid out, in order
-  pub sound : scan_of (pieces_of (layout fields)) ≡ Sound
+  pub sound : scan_of (pieces_of (layout fields)) ≡ Ok tt
   pub values : (tag : ℕ) → values_of tag (pieces_of (layout fields)) ≡ values_with tag fields
   -- a number of up to 9 digits is read as that number
   pub numbers : (tag n low high : ℕ) → values_with tag fields ≡ decimal n ∷ [] → low ≤ n → n ≤ high → n < 10 ^ 9
-      → number_read low high (text_at tag (pieces_of (layout fields))) ≡ Value n
+      → number_read low high (text_at tag (pieces_of (layout fields))) ≡ Ok n
 
 -- ---- what the session reads of every message, by its pieces
 

@@ -3,11 +3,11 @@ use mathlib.Core.Path.{◌≡◌, refl, ap, sym, ◌∙◌}
 use mathlib.Core.List.{List}
 use native.Mathlib.Omega.{arith}
 use Rattle.field.specs.Pieces.{pieces_of, and_then}
-use Rattle.field.specs.declared.Piece.{Piece}
+use Rattle.field.specs.Stands.{Piece}
 use Rattle.field.proofs.Cuts.{stepped, rest_end, scan_in, scan-at, and-then-sound, and-then-assoc}
 use Rattle.field.proofs.IndexLaws.{filled_from, pass_on, filled}
 use Rattle.field.proofs.index_into.Goals as goal
-use Rattle.field.proofs.index_into.Goals.{in-Sound, in-Malformed, in-Empty}
+use Rattle.field.proofs.index_into.Goals.{in-Err, in_default}
 
 pub loop-i-init : goal.loop-i-init
 loop-i-init c = (omega arith, refl, scan-at 0 (pieces_of c.args.body.now))
@@ -24,9 +24,8 @@ loop-i-preserved c =
     -- a sound piece leaves the scan as it is, and so it is with the piece's fault on every way
     let with_piece : c.match-piece_fault.scan ≡ and_then scan c.piece_fault.result =
     elim c.match-piece_fault.branch [
-      | in-Sound w ↦ w.scan-is ∙ sym (and-then-sound scan) ∙ ap (and_then scan) (sym w.in-Sound.is)
-      | in-Malformed w ↦ w.scan-is ∙ w.and_then-scan.ensures ∙ ap (and_then scan) (sym w.in-Malformed.is)
-      | in-Empty w ↦ w.scan-is ∙ w.and_then-scan-in-Empty.ensures ∙ ap (and_then scan) (sym w.in-Empty.is)
+      | in-Err w ↦ w.scan-is ∙ w.and-scan.ensures ∙ ap (and_then scan) (sym w.in-Err.is)
+      | in_default w ↦ w.scan-is ∙ sym (and-then-sound scan) ∙ ap (and_then scan) (sym w.in_default.is)
     ] in (
       t.inside,
       c.loop-i.invariant.1 ∙ pass_on _ _ _ _ _ t.cuts c.note.ensures,

@@ -4,4 +4,4 @@ use Rattle.fill.proofs.Made.{byte-number}
 use Rattle.fill.proofs.side_of.Goals as goal
 
 pub returns : goal.returns
-returns c = c.byte_at.ensures ∙ sym (byte-number (place_of 3) c.args.s.now)
+returns c = c.from.ensures ∙ c.byte_at.ensures ∙ sym (byte-number (place_of 3) c.args.s.now)

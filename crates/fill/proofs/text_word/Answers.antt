@@ -1,5 +1,5 @@
-use Rattle.fill.proofs.Lines.{word-put}
+use Rattle.text.proofs.Puts.{puts-puts}
 use Rattle.fill.proofs.text_word.Goals as goal
 
 pub returns : goal.returns
-returns c = word-put _ _ _ _ _ c.put.ensures c.text_of-w.ensures c.part.ensures
+returns c = simp (c.all.ensures, c.text_of.ensures, c.put.ensures, puts-puts)

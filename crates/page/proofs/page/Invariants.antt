@@ -1,11 +1,7 @@
 -- The first i rows are the page's, and the rest are as they were.
 use mathlib.Core.Path.{◌≡◌}
-use Prim.Native.Nat.{◌-◌, ◌≤◌}
 use Rattle.page.proofs.Upto.{upto}
 use Rattle.page.proofs.page.Given as goal
 
 abbrev pub invariant-loop-i : goal.invariant-loop-i
-invariant-loop-i l = (l.i ≤ l.n) × (l.rows ≡ upto l.marks l.book l.i l.initial.rows)
-
-abbrev pub decreases-loop-i : goal.decreases-loop-i
-decreases-loop-i l = l.n - l.i
+invariant-loop-i l = l.rows ≡ upto l.marks l.book l.i l.initial.rows

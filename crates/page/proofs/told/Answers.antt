@@ -2,8 +2,8 @@
 use mathlib.Core.Path.{sym, ap, ◌∙◌}
 use native.Mathlib.Omega.{arith}
 use Prim.Native.Nat.{ℕ}
-use Rattle.page.specs.declared.Paged.TheVariants as paged
-use Rattle.page.proofs.Shown.{told-few, told-all}
+use Rattle.page.specs.Page.{shows}
+use Rattle.page.proofs.Showing.{told-few, told-all}
 use Rattle.page.proofs.told.Goals as goal
 
 pub returns-then-lent-lt-ROWS : goal.returns-then-lent-lt-ROWS
@@ -13,4 +13,4 @@ pub returns : goal.returns
 returns c =
     let a = c.args in
     let enough = c.if-lent-lt-ROWS.false in
-    ap (λ (n : ℕ). paged.Shown n a.marks.day) c.shown_of.ensures.0 ∙ sym (told-all a.marks a.lent (omega arith))
+    ap (λ (n : ℕ). shows n a.marks.day) c.shown_of.ensures.0 ∙ sym (told-all a.marks a.lent (omega arith))

@@ -4,4 +4,4 @@ use Rattle.fill.proofs.Made.{byte-number}
 use Rattle.fill.proofs.entries.side_of.Goals as goal
 
 pub returns : goal.returns
-returns c = c.byte_at.ensures ∙ sym (byte-number (entry_place_of 2) c.args.s.now)
+returns c = c.from.ensures ∙ c.byte_at.ensures ∙ sym (byte-number (entry_place_of 2) c.args.s.now)

@@ -6,21 +6,25 @@ use lib.ListN.{length, drop, get_or}
 use lib.Seq.{drop-cons}
 use native.Mathlib.Omega.{arith}
 use borrow.Author.Tests.{lt-ltb, le-ltb}
+use mathlib.Core.Logic.{inl, inr}
+use Rattle.octet.proofs.Cases.{le-or-lt}
+use Rattle.answer.specs.declared.Refusal.{Refusal}
 use Rattle.book.specs.Place.{most_orders}
 use Rattle.book.specs.Rows.{Row}
 use Rattle.book.specs.Memory.{slots_in, rows_in}
 use Rattle.book.proofs.Regions.{rows-length}
 use Rattle.queue.specs.declared.Marks.{Marks}
 use Rattle.answer.specs.declared.Refusal.TheVariants as refusal
-use Rattle.page.specs.Page.{shown_of, told_of, due_of, row_as, row_of, rows_from, page_of}
+use Rattle.page.specs.Page.{Paged, shows, shown_of, told_of, due_of, row_as, row_of, rows_from, page_of}
 use Rattle.page.specs.declared.OrderRow.{OrderRow}
-use Rattle.page.specs.declared.Paged.TheVariants as paged
+use Rattle.page.specs.declared.Shown.{Shown}
+use Rattle.std.specs.Prelude.{Ok, Err}
 
-pub told-few : (m : Marks) (lent : ℕ) → lent < most_orders → told_of m lent ≡ paged.Refused refusal.ShortBuffer
+pub told-few : (m : Marks) (lent : ℕ) → lent < most_orders → told_of m lent ≡ Err refusal.ShortBuffer
 unfolding told_of
 told-few m lent h = simp (lt-ltb lent most_orders h)
 
-pub told-all : (m : Marks) (lent : ℕ) → most_orders ≤ lent → told_of m lent ≡ paged.Shown (shown_of m) m.day
+pub told-all : (m : Marks) (lent : ℕ) → most_orders ≤ lent → told_of m lent ≡ shows (shown_of m) m.day
 unfolding told_of
 told-all m lent h = simp (le-ltb lent most_orders h)
 
@@ -33,11 +37,31 @@ unfolding due_of
 due_all m lent h = simp (le-ltb lent most_orders h)
 
 -- no page shows more orders
-pub shown-most : (m : Marks) (lent n day : ℕ) → most_orders ≤ lent → paged.Shown n day ≡ told_of m lent → n ≤ most_orders
+orders_in : Paged → ℕ
+orders_in (Ok s) = s.orders
+orders_in (Err why) = 0
+
+pub shown-most : (m : Marks) (lent n day : ℕ) → most_orders ≤ lent → shows n day ≡ told_of m lent → n ≤ most_orders
+unfolding orders_in
 shown-most m lent n day h e =
-    let f = e ∙ told-all m lent h in
-    let k : n ≡ shown_of m = cc in
+    let k = ap orders_in (e ∙ told-all m lent h) in
     omega arith
+
+-- a page that is shown had enough rows, and one that is refused had few
+pub told-shown : (m : Marks) (lent : ℕ) (s : Shown) → Ok s ≡ told_of m lent → (most_orders ≤ lent) × (s.orders ≡ due_of m lent) × (s.orders ≤ most_orders)
+unfolding orders_in
+told-shown m lent s e =
+    elim (le-or-lt most_orders lent) [
+      | inl h ↦ (let k = ap orders_in (e ∙ told-all m lent h) in (h, k ∙ sym (due_all m lent h), omega arith))
+      | inr h ↦ (let f = e ∙ told-few m lent h in absurd cc)
+    ]
+
+pub told-refused : (m : Marks) (lent : ℕ) (why : Refusal) → Err why ≡ told_of m lent → due_of m lent ≡ 0
+told-refused m lent why e =
+    elim (le-or-lt most_orders lent) [
+      | inl h ↦ (let f = e ∙ told-all m lent h in absurd cc)
+      | inr h ↦ due-few m lent h
+    ]
 
 -- ---- the rows
 

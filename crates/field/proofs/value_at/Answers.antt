@@ -1,7 +1,0 @@
--- `field::value_at` meets its contract: by the tag's column.
-use Rattle.field.specs.Look.{look_in}
-use Rattle.field.proofs.value_at.Goals as goal
-
-pub returns : goal.returns
-unfolding look_in
-returns c = rw (← c.column_of.ensures) c.value_in.ensures
