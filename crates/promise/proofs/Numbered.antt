@@ -13,11 +13,9 @@ use Rattle.restart.specs.Restart.{Outcome, Again, Unlawful, restart, told, refus
 use Rattle.tally.specs.declared.Tally.{Tally}
 use Rattle.receiver.specs.State.{State}
 use Rattle.receiver.specs.Receiver.{What, Lent, refuse, call}
-use Rattle.receiver.specs.Steps.{leave_of}
-use Rattle.receiver.specs.declared.Leave.{Leave}
 use Rattle.promise.specs.Sort.{where_given, sort_of, refused_with}
 use Rattle.promise.specs.Demand1.{too_short, mistimed, wrong_phase, numbers_used, no_room, not_offered, still_waiting, unlawful_note, bad_id, table, first_there}
-use Rattle.promise.specs.Numbered.{holding, first_row, column_no, withheld, Numbered}
+use Rattle.promise.specs.Numbered.{holding, first_row, column_no, Numbered}
 use Rattle.promise.proofs.Refusing.{demand1, setting_up_lem}
 
 -- a row, and the rows after it
@@ -51,12 +49,12 @@ module _ (setup : Setup) (st : State) (b : Lent) (t : Tally) (w : What) where
   calls : column_no (refused_with (call setup st b t w).did.answer) ≡ first_row 1 (holding setup st b w)
   calls = ap column_no (demand1 setup st b t w).first ∙ rows
 
-row9 : (bad : Bool) → column_no (withheld (leave_of (refuse refusal.BadId bad))) ≡ first_row 9 (bad ∷ [])
+row9 : (bad : Bool) → column_no (refuse refusal.BadId bad) ≡ first_row 9 (bad ∷ [])
 row9 true = refl
 row9 false = refl
 
 pub numbered : Numbered
 numbered = record {
   calls = calls;
-  set_up = λ ours theirs. ap (λ (l : Leave). column_no (withheld l)) (setting_up_lem ours theirs) ∙ row9 (bad_id ours || bad_id theirs);
+  set_up = λ ours theirs. ap column_no (setting_up_lem ours theirs) ∙ row9 (bad_id ours || bad_id theirs);
 }

@@ -18,7 +18,7 @@ use borrow.Author.Tests.{eqb-true, ltb-true, not-false}
 use Rattle.octet.specs.Bytes.{bytes_of, between, all_in, until_byte, joined}
 use Rattle.octet.specs.Maybe.{or_else, first, unless}
 use Rattle.octet.specs.Splice.{splice}
-use Rattle.octet.proofs.Cases.{of-cond, bool_case, contrary, and_both}
+use Rattle.octet.proofs.Cases.{of-cond, bool_case, and_both}
 use Rattle.octet.proofs.Lists.{splice-take, until-in, between-low, between-high}
 use Rattle.text.specs.Decimal.{digit_run, digits}
 use Rattle.value.specs.Value.{is_time}
@@ -52,9 +52,9 @@ use Rattle.table.specs.Place.{Misformed}
 use Rattle.table.proofs.Place.{misformed, at-inside}
 use Rattle.wire.specs.Reading.{Clear}
 use Rattle.receiver.specs.Receiver.{good_id, setup_with, setting_up, bad_given}
-use Rattle.receiver.specs.declared.SetUp.{SetUp}
-use Rattle.receiver.specs.declared.Leave.{Leave}
-use Rattle.receiver.specs.declared.Leave.TheVariants as leave
+use Rattle.std.specs.Prelude.{Result, Ok, Err}
+use Rattle.answer.specs.declared.Refusal.{Refusal}
+use Rattle.answer.specs.declared.Refusal.TheVariants as refusal
 use Rattle.promise.specs.WrittenRead.{Granted}
 
 abbrev Unmarked : List ℕ → Type 0
@@ -85,12 +85,8 @@ good-id t h =
     let most = between-high 1 16 (length t) p.0 in
     subst GoodId (sym (id-back t most)) (record { clear = (between-low 1 16 (length t) p.0, until-in 1 33 126 t p.1 refl); short = most })
 
-is_granted : Leave → Bool
-is_granted leave.Granted = true
-is_granted (leave.Refused why) = false
-
 pub agreed : (setup : Setup) → Granted setup → Agreed setup
-unfolding setting_up setup_with is_granted
+unfolding setting_up setup_with
 agreed setup g =
     let a : List ℕ = g.0 in
     let b : List ℕ = g.1 in
@@ -99,10 +95,10 @@ agreed setup g =
     (λ h. let p = and_both (good_id a) (good_id b) h in
     let x = good-id a p.0 in
     let y = good-id b p.1 in
-    let u : setting_up a b ≡ record { leave = leave.Granted; setup = setup_with a b } = rw h in
-    let s : setup_with a b ≡ setup = ap (λ (z : SetUp). z.setup) (sym u ∙ e) in
+    let u : setting_up a b ≡ Ok (setup_with a b) = rw h in
+    let s : setup_with a b ≡ setup = cc in
     subst Agreed s (record { sender = x.clear; target = y.clear; widths = (x.short, y.short) }))
-    (λ h. let no : is_granted (setting_up a b).leave ≡ false = rw h in contrary (ap (λ (z : SetUp). is_granted z.leave) e) no)
+    (λ h. let no : setting_up a b ≡ Err refusal.BadId = rw h in cc)
     (bool_case (good_id a && good_id b))
 
 -- ---- the given time

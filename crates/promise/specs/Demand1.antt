@@ -1,5 +1,5 @@
 -- THE FIRST DEMAND: "Call refusals. Nothing changes, lent buffers included. Checked in this order". The table, row by row, of any call; and row 9, of setting up.
-use Rattle.std.specs.Prelude.{ℕ, ◌≡◌, ◌↔◌, List, [], ◌∷◌, ◌++◌, Bool, true, false, ◌&&◌, ◌||◌, not, length, ltb, eqb}
+use Rattle.std.specs.Prelude.{ℕ, ◌≡◌, ◌↔◌, List, [], ◌∷◌, ◌++◌, Bool, true, false, ◌&&◌, ◌||◌, not, length, ltb, eqb, Result, Ok, Err}
 use Rattle.std.proofs.Math.Option.{Option, none, some}
 use Rattle.octet.specs.Bytes.{between, all_in}
 use Rattle.octet.specs.Maybe.{or_else}
@@ -21,7 +21,6 @@ use Rattle.tally.specs.declared.Tally.{Tally}
 use Rattle.receiver.specs.State.{State, Did, seen, stored, reply_after, note_after, line_after, book_after}
 use Rattle.receiver.specs.Calls.{Brings, Nothing, This, brings_of}
 use Rattle.receiver.specs.Receiver.{What, Message, Restart, Lent, refuse, call, setting_up}
-use Rattle.receiver.specs.Steps.{leave_of}
 use Rattle.receiver.specs.declared.State.{State as Stored}
 use Rattle.promise.specs.Sort.{where_given, Buffers, sort_of, refused_with}
 use Rattle.promise.specs.World.{is_refused}
@@ -142,6 +141,11 @@ pub record Demand1 (setup : Setup) (st : State) (b : Lent) (t : Tally) (w : What
 abbrev pub bad_id : List ℕ → Bool
 bad_id id = not (between 1 16 (length id) && all_in 33 126 id)
 
+-- why a set-up is refused, where it is
+abbrev pub refused_for : Result Setup Refusal → Option Refusal
+refused_for (Ok setup) = none
+refused_for (Err why) = some why
+
 -- it is refused exactly where one of the two is such an ID
 abbrev pub SetUpRefused : List ℕ → List ℕ → Type 0
-SetUpRefused ours theirs = (setting_up ours theirs).leave ≡ leave_of (refuse refusal.BadId (bad_id ours || bad_id theirs))
+SetUpRefused ours theirs = refused_for (setting_up ours theirs) ≡ refuse refusal.BadId (bad_id ours || bad_id theirs)

@@ -8,10 +8,8 @@ use Rattle.answer.specs.declared.Refusal.{Refusal}
 use Rattle.receiver.specs.State.{State}
 use Rattle.tally.specs.declared.Tally.{Tally}
 use Rattle.receiver.specs.Receiver.{What, Lent, call, setting_up}
-use Rattle.receiver.specs.declared.Leave.{Leave}
-use Rattle.receiver.specs.declared.Leave.TheVariants as leave
 use Rattle.promise.specs.Sort.{refused_with}
-use Rattle.promise.specs.Demand1.{too_short, mistimed, wrong_phase, numbers_used, no_room, not_offered, still_waiting, unlawful_note, bad_id}
+use Rattle.promise.specs.Demand1.{too_short, mistimed, wrong_phase, numbers_used, no_room, not_offered, still_waiting, unlawful_note, bad_id, refused_for}
 
 -- the column "When", rows 1 to 8
 abbrev pub holding : Setup → State → Lent → What → List Bool
@@ -28,12 +26,7 @@ abbrev pub column_no : Option Refusal → Option ℕ
 column_no none = none
 column_no (some why) = some (refusal_number why)
 
--- the refusal that a leave is
-abbrev pub withheld : Leave → Option Refusal
-withheld leave.Granted = none
-withheld (leave.Refused why) = some why
-
 -- rows 1 to 8, of any call; and row 9, of setting up
 pub record Numbered : Type 0 where
   pub calls : (setup : Setup) (st : State) (b : Lent) (t : Tally) (w : What) → column_no (refused_with (call setup st b t w).did.answer) ≡ first_row 1 (holding setup st b w)
-  pub set_up : (ours theirs : List ℕ) → column_no (withheld (setting_up ours theirs).leave) ≡ first_row 9 ((bad_id ours || bad_id theirs) ∷ [])
+  pub set_up : (ours theirs : List ℕ) → column_no (refused_for (setting_up ours theirs)) ≡ first_row 9 ((bad_id ours || bad_id theirs) ∷ [])

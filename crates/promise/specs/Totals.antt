@@ -1,7 +1,7 @@
 -- TOTALS ON THE SCREEN: "Keep them for each order and for the day, true through booking, acknowledging, a new day and a restart"; "Demand 3's
 -- total is still read from the history, and these stored sums, with the contracts acknowledged, must equal it". Of every world that steps lead
 -- to; and the page, of what a caller holds.
-use Rattle.std.specs.Prelude.{ℕ, ◌+◌, ◌*◌, ◌≤◌, ◌<◌, ◌≡◌, List, [], ◌++◌, map, length, drop, get_or, replicate}
+use Rattle.std.specs.Prelude.{ℕ, ◌+◌, ◌*◌, ◌≤◌, ◌<◌, ◌≡◌, List, [], ◌++◌, map, length, drop, get_or, replicate, Err}
 use Rattle.std.proofs.Math.Option.{Option, none, some}
 use Rattle.octet.specs.Bytes.{sum_of}
 use Rattle.octet.specs.Splice.{splice}
@@ -13,8 +13,7 @@ use Rattle.book.specs.Rows.{Row, booked_in, waits_in, head_of, row_for}
 use Rattle.book.specs.Orders.{orders_of, of_order, rows_of, OnceIn}
 use Rattle.note.specs.Kept.{Kept, empty, waiting}
 use Rattle.page.specs.declared.OrderRow.{OrderRow}
-use Rattle.page.specs.declared.Paged.{Paged}
-use Rattle.page.specs.declared.Paged.TheVariants as paged
+use Rattle.page.specs.Page.{Paged, shows}
 use Rattle.promise.specs.World.{World, Cut, step, survivors, left, today, booked_by, acknowledged, distinct}
 
 -- ---- what is stored
@@ -66,7 +65,7 @@ order_row q id = record { id = splice (replicate 31 0) 0 id; waiting = sum_where
 -- what the page answers and leaves in the lent rows, where q is what is kept: "1 also where fewer than 128 rows are lent"; "filled in booking
 -- order of the orders' first fills; rows beyond the last order are left as found"
 pub record Page (q : Kept) (rows : List OrderRow) (r : Paged) (rows' : List OrderRow) : Type 0 where
-  pub refused : length rows < 128 → (r ≡ paged.Refused refusal.ShortBuffer) × (rows' ≡ rows)
+  pub refused : length rows < 128 → (r ≡ Err refusal.ShortBuffer) × (rows' ≡ rows)
   pub shown : 128 ≤ length rows
-      → (r ≡ paged.Shown (length (orders_of q.slots)) (sum_where is_fill (waiting q)))
+      → (r ≡ shows (length (orders_of q.slots)) (sum_where is_fill (waiting q)))
       × (rows' ≡ map (order_row q) (orders_of q.slots) ++ drop (length (orders_of q.slots)) rows)
