@@ -17,9 +17,13 @@ pub overflow_add-start-then-is_tagged : goal.overflow_add-start-then-is_tagged
 overflow_add-start-then-is_tagged c =
     omega (arith, tag-end _ _ c.requires _ c.digits_of-digits.ensures.0 (sym c.is_tagged.ensures ∙ c.if-is_tagged.true) _ c.until_bar-len.ensures)
 
+pub overflow_add-start-then-is_tagged-2 : goal.overflow_add-start-then-is_tagged-2
+overflow_add-start-then-is_tagged-2 c =
+    omega (arith, tag-end _ _ c.requires _ c.digits_of-digits.ensures.0 (sym c.is_tagged.ensures ∙ c.if-is_tagged.true) _ c.until_bar-len.ensures)
+
 pub returns-then-is_tagged : goal.returns-then-is_tagged
 returns-then-is_tagged c =
-    tag-step _ _ c.requires _ c.digits_of-digits.ensures.0 (sym c.is_tagged.ensures ∙ c.if-is_tagged.true) _ c.until_bar-len.ensures _ c.after.ensures
+    tag-step _ _ c.requires _ c.digits_of-digits.ensures.0 (sym c.is_tagged.ensures ∙ c.if-is_tagged.true) _ c.until_bar-len.ensures _ c.min.ensures
 
 pub overflow_add-n : goal.overflow_add-n
 overflow_add-n c = omega (arith, stray-end _ _ c.requires _ c.digits_of-digits.ensures.0 _ c.until.ensures)
@@ -27,5 +31,8 @@ overflow_add-n c = omega (arith, stray-end _ _ c.requires _ c.digits_of-digits.e
 pub overflow_add-at : goal.overflow_add-at
 overflow_add-at c = omega (arith, stray-end _ _ c.requires _ c.digits_of-digits.ensures.0 _ c.until.ensures)
 
+pub overflow_add-at-2 : goal.overflow_add-at-2
+overflow_add-at-2 c = omega (arith, stray-end _ _ c.requires _ c.digits_of-digits.ensures.0 _ c.until.ensures)
+
 pub returns : goal.returns
-returns c = stray-step _ _ c.requires _ c.digits_of-digits.ensures.0 _ c.until.ensures (sym c.is_tagged.ensures ∙ c.if-is_tagged.false) _ c.after-2.ensures
+returns c = stray-step _ _ c.requires _ c.digits_of-digits.ensures.0 _ c.until.ensures (sym c.is_tagged.ensures ∙ c.if-is_tagged.false) _ c.min-2.ensures
