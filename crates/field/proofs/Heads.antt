@@ -1,10 +1,7 @@
 -- A piece, told from the text that it is the front of: its tag is read first, and its `|` looked for behind it.
 --     front-six     the digits at its front, of which six are read
---     no_digit, too_long, zero-first, by-equals     whether it begins with a tag and `=`, in the order of the definition's tests
---     some_byte     where there is a digit there is a byte
---     stray-mark, tag-mark     where its `|` stands
---     is-stray, is_field     what it is
---     step_is     the step over it
+--     tag-inside, tag-end, stray-end     where its `|` stands
+--     tag-step, stray-step     the step over it
 use Rattle.std.specs.Prelude.{None}
 use mathlib.Core.Path.{◌≡◌, refl, ap, sym, ◌∙◌}
 use mathlib.Core.Logic.{⊎_elim}
@@ -15,10 +12,10 @@ use native.Mathlib.Omega.{arith}
 use lib.ListN.{length, get_or, take, drop, take-append-drop}
 use lib.Seq.{get_or-take}
 use lib.Dec.{eqb}
-use borrow.Author.Tests.{eq-eqb, ne_eqb, eqb-true}
+use borrow.Author.Tests.{ne_eqb, eqb-true}
 use Rattle.octet.specs.Bytes.{between, until_byte}
 use Rattle.octet.proofs.Cases.{le-or-lt, and_both}
-use Rattle.octet.proofs.Lists.{is-between, is_below, is-above, between-high, length_part, part-part, run-most, until-in, until-most, until-go}
+use Rattle.octet.proofs.Lists.{part-rest, between-high, length_part, part-part, run-most, until-in, until-most, until-go}
 use Rattle.text.specs.Decimal.{digits, digit_run, digits_taken, digits_at_front}
 use Rattle.text.specs.declared.Digits.{Digits}
 use Rattle.text.proofs.ReadLaws.{front-in}
@@ -117,13 +114,13 @@ module _ (s : List ℕ) where
     unfolding digits_at_front
     value-is = rw e
 
-    pub stray-mark : until_byte 1 s ≡ d.len + until_byte 1 (drop d.len s)
+    stray-mark : until_byte 1 s ≡ d.len + until_byte 1 (drop d.len s)
     stray-mark = behind d.len s (omega (arith, len_is))
 
     run_is : tagged s ≡ true → digit_run s ≡ d.len
     run_is h = omega (arith, len_is, tagged-few h)
 
-    pub tag-mark : tagged s ≡ true → until_byte 1 s ≡ d.len + 1 + until_byte 1 (drop (d.len + 1) s)
+    tag-mark : tagged s ≡ true → until_byte 1 s ≡ d.len + 1 + until_byte 1 (drop (d.len + 1) s)
     tag-mark h = past-run (tagged-equals h) ∙ ap (λ (k : ℕ). k + 1 + until_byte 1 (drop (k + 1) s)) (run_is h)
 
     same_tag : tagged s ≡ true → tag_of piece ≡ d.value
@@ -132,39 +129,55 @@ module _ (s : List ℕ) where
         ∙ ap digits (part-part 0 (until_byte 1 s) 0 d.len s (omega (arith, run_inside, len_is)))
         ∙ sym value-is
 
-    pub is_field : (at m : ℕ) → tagged s ≡ true → m ≡ until_byte 1 (drop (d.len + 1) s) → field d.value (at + (d.len + 1)) m ≡ piece_at at piece
+    is_field : (at m : ℕ) → tagged s ≡ true → m ≡ until_byte 1 (drop (d.len + 1) s) → field d.value (at + (d.len + 1)) m ≡ piece_at at piece
     unfolding piece_at
     is_field at m h g =
         let l : length piece - (d.len + 1) ≡ m = omega (arith, piece-length, tag-mark h) in
         rw (same-tagged, h, same_tag h, same-run, run_is h, l)
 
-  pub is-stray : (at : ℕ) → tagged s ≡ false → None ≡ piece_at at piece
+  is-stray : (at : ℕ) → tagged s ≡ false → None ≡ piece_at at piece
   unfolding piece_at
   is-stray at h = rw (same-tagged, h)
 
--- ---- whether it begins with a tag and `=`, by how many digits stand at the front, of which one more is counted than a tag may have
-module _ (p : List ℕ) (k : ℕ) (e : k ≡ min 6 (digit_run p)) where
-  pub no_digit : k ≡ 0 → false ≡ tagged p
-  no_digit h = rw (is_below 1 5 (digit_run p) (omega arith))
+-- ---- the step over the piece that begins at a place of a body, by the digits that are read of the rest and how far behind them its `|` is
+abbrev rest_of : List ℕ → ℕ → List ℕ
+rest_of body at = take (length body - at) (drop at body)
 
-  pub too_long : 5 < k → false ≡ tagged p
-  too_long h = rw (is-above 1 5 (digit_run p) (omega arith))
-
-  pub some_byte : (k ≡ 0 → ⊥) → 0 < length p
-  some_byte h = omega (arith, run-most 48 57 p)
-
-  run-good : (k ≡ 0 → ⊥) → k ≤ 5 → between 1 5 (digit_run p) ≡ true
-  run-good g h = is-between 1 5 (digit_run p) (omega arith) (omega arith)
-
-  pub zero-first : (k ≡ 0 → ⊥) → k ≤ 5 → get_or p 0 0 ≡ 48 → false ≡ tagged p
-  zero-first g h z = rw (run-good g h, eq-eqb (get_or p 0 0) 48 z)
-
-  pub by-equals : (k ≡ 0 → ⊥) → k ≤ 5 → (get_or p 0 0 ≡ 48 → ⊥) → eqb (get_or p k 0) 61 ≡ tagged p
-  by-equals g h z =
-      let r : digit_run p ≡ k = omega arith in
-      rw (run-good g h, ne_eqb (get_or p 0 0) 48 z, r)
-
-pub step_is : (at : ℕ) (body : List ℕ) (g : Piece) (m : ℕ) → g ≡ piece_at at (piece (drop at body)) → m ≡ min (at + until_byte 1 (drop at body) + 1) (length body)
+step_is : (at : ℕ) (body : List ℕ) (g : Piece) (m : ℕ) → g ≡ piece_at at (piece (rest_of body at)) → m ≡ min (at + until_byte 1 (rest_of body at) + 1) (length body)
     → record { piece = g; next = m } ≡ step_of at body
 unfolding step_of
-step_is at body g m e f = rw (e, f)
+step_is at body g m e f = let r : rest_of body at ≡ drop at body = part-rest body at in rw (e, f, r)
+
+module _ (body : List ℕ) (at : ℕ) (h : at ≤ length body) where
+  abbrev rest : List ℕ
+  rest = rest_of body at
+
+  mark-in : at + until_byte 1 rest ≤ length body
+  mark-in = omega (arith, until-most 1 rest, length_part at (length body - at) body (omega arith))
+
+  module _ (d : Digits) (read : d ≡ digits_at_front 6 rest) where
+    module _ (t : tagged rest ≡ true) where
+      pub tag-inside : d.len + 1 ≤ length rest
+      tag-inside = omega (arith, tag-mark rest d read t, until-most 1 rest)
+
+      module _ (m : ℕ) (far : m ≡ until_byte 1 (rest_of rest (d.len + 1))) where
+        tag-far : until_byte 1 rest ≡ d.len + 1 + m
+        tag-far = tag-mark rest d read t ∙ rw (far, part-rest rest (d.len + 1))
+
+        pub tag-end : at + (d.len + 1) + m ≤ length body
+        tag-end = omega (arith, tag-far, mark-in)
+
+        pub tag-step : (next : ℕ) → next ≡ min (at + (d.len + 1) + m + 1) (length body)
+            → record { piece = field d.value (at + (d.len + 1)) m; next = next } ≡ step_of at body
+        tag-step next e =
+            step_is at body _ next (is_field rest d read at m t (far ∙ ap (until_byte 1) (part-rest rest (d.len + 1)))) (e ∙ omega (arith, tag-far))
+
+    module _ (m : ℕ) (far : m ≡ until_byte 1 (rest_of rest d.len)) where
+      stray-far : until_byte 1 rest ≡ d.len + m
+      stray-far = stray-mark rest d read ∙ rw (far, part-rest rest d.len)
+
+      pub stray-end : at + (d.len + m) ≤ length body
+      stray-end = omega (arith, stray-far, mark-in)
+
+      pub stray-step : tagged rest ≡ false → (next : ℕ) → next ≡ min (at + (d.len + m) + 1) (length body) → record { piece = None; next = next } ≡ step_of at body
+      stray-step t next e = step_is at body _ next (is-stray rest at t) (e ∙ omega (arith, stray-far))

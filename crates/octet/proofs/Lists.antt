@@ -1,19 +1,24 @@
 -- List laws: what is left of a list at a place, parts, sameness, agreement, runs, joined lists, and lists written over others (`splice`).
 use mathlib.Core.Path.{◌≡◌, refl, sym, ap, ◌∙◌, subst}
-use mathlib.Core.Logic.{◌⊎◌, inl, inr, ⊎_elim}
+use mathlib.Core.Logic.{⊎_elim}
 use mathlib.Core.List.{List, [], ◌∷◌, ◌++◌, reverse, reverse-cons, append_assoc, append-nil}
-use mathlib.Core.Bool.{Bool, true, false, ◌&&◌, and_assoc, and_comm, and-true}
+use mathlib.Core.Bool.{Bool, true, false, not, cond, ◌&&◌, ◌||◌, and_assoc, and_comm, and-true}
 use Prim.Native.Nat.{ℕ, zero, suc, ◌+◌, ◌-◌, ◌≤◌, ◌<◌, min}
 use native.Mathlib.Nat.{add-sub_cancel_left, zero-sub, sub-zero, min-le_left, le_of_eq, add-zero}
 use native.Mathlib.Numerals.{add-one}
 use native.Mathlib.Omega.{arith}
 use lib.ListN.{length, take, drop, get_or, set, length-append, length-take, length-drop, take-append-drop, drop_of_length-le}
 use lib.Seq.{drop-cons, set_split, set_out, append_snoc, take_all, take-nil, take-length, take-add, length-take-le, take_at, drop_at, drop-drop, take-take, take-append-le, drop-append-le, drop-append-add, take-append_seam, drop-append_seam, get_or-take, get_or-drop}
-use lib.Dec.{leb, eqb}
-use borrow.Author.Tests.{le-leb, lt-leb, eq-eqb, ne_eqb, eqb-true, leb-true}
+use lib.Dec.{leb, ltb, eqb}
+use borrow.Rule.Slice.PartMut.{put_mid}
+use borrow.Author.Tests.{le-leb, lt-leb, eq-eqb, ne_eqb, eqb-true, leb-true, lt-ltb, le-ltb}
+use Rattle.std.specs.Option.{unwrap_or}
+use Rattle.std.specs.Prelude.{Some, None}
+use Rattle.std.specs.List.{starts_with, position_or_len, list_all, list_any, fold}
+use Rattle.std.proofs.lemmas.List.Recursion.{is_position_or_len}
 use Rattle.octet.specs.Bytes.{between, same, agree, all_in, run_in, until_byte, part, joined}
 use Rattle.octet.specs.Splice.{splice, fits_at}
-use Rattle.octet.proofs.Cases.{le-or-lt, bool_case, not-true-false, contrary, bool-ext, of-cond, cond-true, cond-false, and_both, and_left, and_right, and-make, and-no-left, and-no-right}
+use Rattle.octet.proofs.Cases.{le-or-lt, bool_case, not-true-false, contrary, bool-ext, of-cond, cond-true, cond-false, cond-not, and_both, and_left, and_right, and-make, and-no-left, and-no-right, or-neither}
 
 -- ---- a loop that walks a list: what is left of it at place i
 pub drop-step : (s : List ℕ) (i : ℕ) → i < length s → drop i s ≡ get_or s i 0 ∷ drop (i + 1) s
@@ -46,6 +51,14 @@ part-most at n s = rw length-take (min-le_left n (length (drop at s)))
 
 pub part-short : {t : List ℕ} (at n : ℕ) (s : List ℕ) → t ≡ part at n s → length t ≤ n
 part-short at n s e = rw e (part-most at n s)
+
+-- a part that is whole, and one that is not
+pub part-whole : {t : List ℕ} (at n : ℕ) (s : List ℕ) → t ≡ part at n s → 0 < n → length t ≡ n → at + n ≤ length s
+part-whole at n s e h l = omega (arith, rw e at l, length-take n (drop at s), length-drop at s)
+
+pub part-fewer : {t : List ℕ} (at n : ℕ) (s : List ℕ) → t ≡ part at n s → (length t ≡ n → ⊥) → length s < at + n
+part-fewer at n s e h =
+    ⊎_elim (λ f. absurd (h (ap length e ∙ length_part at n s f))) (λ f. f) (le-or-lt (at + n) (length s))
 
 pub part-nil : (at n : ℕ) → part at n [] ≡ []
 part-nil at n = part-past at n [] (omega arith)
@@ -147,13 +160,6 @@ pub agree-self : (o s : List ℕ) → agree o (o ++ s) ≡ true
 agree-self [] s = refl
 agree-self (x ∷ o) s = rw (eq-eqb x x refl) (agree-self o s)
 
--- where both are as long, to agree is to be the same
-pub agree_same : (a b : List ℕ) → length a ≡ length b → agree a b ≡ same a b
-agree_same [] [] e = refl
-agree_same [] (y ∷ b) e = absurd (omega arith)
-agree_same (x ∷ a) [] e = absurd (omega arith)
-agree_same (x ∷ a) (y ∷ b) e = ap (◌&&◌ (eqb x y)) (agree_same a b (omega arith))
-
 pub length-differs : (a b : List ℕ) → (length a ≡ length b → ⊥) → same a b ≡ false
 length-differs a b h = same_false a b (λ e. h (ap length e))
 
@@ -166,6 +172,16 @@ agree-begins (x ∷ o) (y ∷ s) h e =
     let f : x ≡ y = eqb-true x y p.0 in
     let t : s ≡ o ++ drop (length o) s = agree-begins o s (omega arith) p.1 in
     cc
+
+-- one begins with the other, as `starts_with` asks it
+pub agree-starts : (o s : List ℕ) → agree o s ≡ (starts_with eqb s o || starts_with eqb o s)
+agree-starts [] s = refl
+agree-starts (x ∷ o) [] = refl
+agree-starts (x ∷ o) (y ∷ s) =
+    ⊎_elim
+    (λ (h : eqb x y ≡ true). rw (h, eq-eqb y x (sym (eqb-true x y h))) (agree-starts o s))
+    (λ (h : eqb x y ≡ false). rw (h, ne_eqb y x (λ (e : y ≡ x). contrary (eq-eqb x y (sym e)) h)))
+    (bool_case (eqb x y))
 
 -- a walk over both, from places i and j on
 module _ (o s : List ℕ) (i j : ℕ) where
@@ -213,9 +229,20 @@ until-in b low high (x ∷ s) e h =
     let p = and_both (between low high x) (all_in low high s) e in
     rw (ne_eqb x b (λ (f : x ≡ b). contrary p.0 (ap (between low high) f ∙ h))) (ap suc (until-in b low high s p.1 h))
 
+-- as `position` asks it
+pub until_position : (b : ℕ) (s : List ℕ) → until_byte b s ≡ position_or_len (λ (x : ℕ). eqb x b) s
+until_position b = is_position_or_len (until_byte b) (λ (x : ℕ). eqb x b) refl (λ (x : ℕ) (s : List ℕ). ap (cond (eqb x b) 0) (let e : suc (until_byte b s) ≡ 1 + until_byte b s = omega arith in e))
+
 pub until-most : (b : ℕ) (s : List ℕ) → until_byte b s ≤ length s
 until-most b [] = omega arith
 until-most b (x ∷ s) = of-cond (λ (n : ℕ). n ≤ suc (length s)) (eqb x b) (λ e. omega arith) (λ e. omega (arith, until-most b s))
+
+-- where `contains` finds none, the first b stands further on
+until-none : (b : ℕ) (s : List ℕ) → list_any (λ (x : ℕ). eqb x b) s ≡ false → until_byte b s ≡ length s
+until-none b [] e = refl
+until-none b (x ∷ s) e =
+    let p = or-neither (eqb x b) (list_any (λ (y : ℕ). eqb y b) s) e in
+    cond-false (eqb x b) 0 (suc (until_byte b s)) p.0 ∙ ap suc (until-none b s p.1)
 
 -- among the first n bytes
 pub until-take : (b n : ℕ) (s : List ℕ) → until_byte b (take n s) ≡ min n (until_byte b s)
@@ -233,16 +260,22 @@ until-from b (suc i) (x ∷ s) h =
     of-cond (λ (n : ℕ). suc i ≤ n → n ≡ suc i + until_byte b (drop i s)) (eqb x b)
     (λ e g. absurd (omega arith)) (λ e g. omega (arith, until-from b i s (omega arith))) h
 
--- a walk: at place i
-module _ (b : ℕ) (s : List ℕ) (i : ℕ) where
-  pub until-go : i < length s → (get_or s i 0 ≡ b → ⊥) → until_byte b (drop i s) ≡ 1 + until_byte b (drop (i + 1) s)
-  until-go h e = ap (until_byte b) (drop-step s i h) ∙ cond-false (eqb (get_or s i 0) b) 0 (suc (until_byte b (drop (i + 1) s))) (ne_eqb _ _ e) ∙ omega arith
+pub until-past : (b n : ℕ) (s : List ℕ) → n ≤ length s → list_any (λ (x : ℕ). eqb x b) (take n s) ≡ false → until_byte b s ≡ n + until_byte b (drop n s)
+until-past b n s h e =
+    let u : until_byte b (take n s) ≡ n = until-none b (take n s) e ∙ length-take-le n s h in
+    until-from b n s (omega (arith, until-take b n s))
 
-  pub until_stop : i < length s → get_or s i 0 ≡ b → until_byte b (drop i s) ≡ 0
-  until_stop h e = ap (until_byte b) (drop-step s i h) ∙ cond-true (eqb (get_or s i 0) b) 0 (suc (until_byte b (drop (i + 1) s))) (eq-eqb _ _ e)
+-- the count, where `position` gave it
+pub counted : (n m : ℕ) → n ≤ m → unwrap_or (cond (ltb n m) (Some n) None) m ≡ n
+counted n m h =
+    ⊎_elim
+    (λ (f : m ≤ n). ap (λ (t : Bool). unwrap_or (cond t (Some n) None) m) (le-ltb n m f) ∙ (let e : m ≡ n = omega arith in e))
+    (λ (f : n < m). ap (λ (t : Bool). unwrap_or (cond t (Some n) None) m) (lt-ltb n m f))
+    (le-or-lt m n)
 
-  pub until-done : length s ≤ i → until_byte b (drop i s) ≡ 0
-  until-done h = ap (until_byte b) (drop-done s i h)
+-- a walk: a byte that is not b
+pub until-go : (b : ℕ) (s : List ℕ) (i : ℕ) → i < length s → (get_or s i 0 ≡ b → ⊥) → until_byte b (drop i s) ≡ 1 + until_byte b (drop (i + 1) s)
+until-go b s i h e = ap (until_byte b) (drop-step s i h) ∙ cond-false (eqb (get_or s i 0) b) 0 (suc (until_byte b (drop (i + 1) s))) (ne_eqb _ _ e) ∙ omega arith
 
 -- ---- all_in and run_in
 module _ (low high : ℕ) where
@@ -260,6 +293,21 @@ module _ (low high : ℕ) where
       ∙ ap (λ (p : Bool). p && (t && true)) (all_in-reverse s)
       ∙ ap (◌&&◌ (all_in low high s)) (and-true t)
       ∙ and_comm (all_in low high s) t
+
+  -- as `all` asks it, and as a fold does
+  pub all_in_list : (s : List ℕ) → all_in low high s ≡ list_all (between low high) s
+  all_in_list [] = refl
+  all_in_list (b ∷ s) = ap (◌&&◌ (between low high b)) (all_in_list s)
+
+  all_in-from : (t : Bool) (s : List ℕ) → fold (λ (all : Bool) (b : ℕ). (all && leb low b) && leb b high) t s ≡ t && all_in low high s
+  all_in-from t [] = sym (and-true t)
+  all_in-from t (b ∷ s) =
+      all_in-from ((t && leb low b) && leb b high) s
+      ∙ ap (λ (p : Bool). p && all_in low high s) (and_assoc t (leb low b) (leb b high))
+      ∙ and_assoc t (between low high b) (all_in low high s)
+
+  pub all_in_fold : (s : List ℕ) → all_in low high s ≡ fold (λ (all : Bool) (b : ℕ). (all && leb low b) && leb b high) true s
+  all_in_fold s = sym (all_in-from true s)
 
   -- byte by byte
   pub all_in-at : (s : List ℕ) (i : ℕ) → all_in low high s ≡ true → i < length s → between low high (get_or s i 0) ≡ true
@@ -302,6 +350,14 @@ module _ (low high : ℕ) where
       let p = and_both (between low high x) (all_in low high s) e in
       cond-true (between low high x) (suc (run_in low high (s ++ b ∷ t))) 0 p.0 ∙ ap suc (run-before s b t p.1 h)
 
+  -- as `position` asks it
+  pub run_position : (s : List ℕ) → run_in low high s ≡ position_or_len (λ (b : ℕ). not (between low high b)) s
+  run_position =
+      is_position_or_len (run_in low high) (λ (b : ℕ). not (between low high b)) refl
+      (λ (b : ℕ) (s : List ℕ).
+      ap (λ (n : ℕ). cond (between low high b) n 0) (let e : suc (run_in low high s) ≡ 1 + run_in low high s = omega arith in e)
+      ∙ sym (cond-not (between low high b) 0 (1 + run_in low high s)))
+
   pub run-most : (s : List ℕ) → run_in low high s ≤ length s
   run-most [] = omega arith
   run-most (b ∷ s) = of-cond (λ (n : ℕ). n ≤ suc (length s)) (between low high b) (λ e. omega (arith, run-most s)) (λ e. omega arith)
@@ -336,34 +392,9 @@ module _ (low high : ℕ) where
       let p = and_both (between low high b) (all_in low high (take n s)) e in
       omega (arith, cond-true (between low high b) (suc (run_in low high s)) 0 p.0, run-reach n s (omega arith) p.1)
 
-  -- a walk: at place i
-  module _ (s : List ℕ) (i : ℕ) where
-    pub run-go : i < length s → between low high (get_or s i 0) ≡ true → run_in low high (drop i s) ≡ 1 + run_in low high (drop (i + 1) s)
-    run-go h e = ap (run_in low high) (drop-step s i h) ∙ cond-true (between low high (get_or s i 0)) (suc (run_in low high (drop (i + 1) s))) 0 e ∙ omega arith
-
-    pub run-stop : i < length s → between low high (get_or s i 0) ≡ false → run_in low high (drop i s) ≡ 0
-    run-stop h e = ap (run_in low high) (drop-step s i h) ∙ cond-false (between low high (get_or s i 0)) (suc (run_in low high (drop (i + 1) s))) 0 e
-
-    pub run-done : length s ≤ i → run_in low high (drop i s) ≡ 0
-    run-done h = ap (run_in low high) (drop-done s i h)
-
--- ---- many bytes told at once, with no way out of the loop
--- t is a count and `rest` the count from a place on: the flag is 0 as long as the first i bytes are all counted, and then stays 1
-abbrev pub Told : ℕ → (ℕ → ℕ) → ℕ → ℕ → Type 0
-Told t rest flag i = ((flag ≡ 0) × (t ≡ i + rest i)) ⊎ ((flag ≡ 1) × (t < i))
-
-module _ (t : ℕ) (rest : ℕ → ℕ) (flag i : ℕ) where
-  pub told-go : rest i ≡ 1 + rest (i + 1) → Told t rest flag i → Told t rest flag (i + 1)
-  told-go e = ⊎_elim (λ p. inl (p.0, omega arith)) (λ p. inr (p.0, omega arith))
-
-  pub told-stop : rest i ≡ 0 → Told t rest flag i → Told t rest 1 (i + 1)
-  told-stop e = ⊎_elim (λ p. inr (refl, omega arith)) (λ p. inr (refl, omega arith))
-
-  pub told-all : Told t rest flag i → eqb flag 0 ≡ leb i t
-  told-all =
-      ⊎_elim
-      (λ p. eq-eqb flag 0 p.0 ∙ sym (le-leb i t (omega arith)))
-      (λ p. ne_eqb flag 0 (λ e. omega arith) ∙ sym (lt-leb i t p.1))
+  -- a walk: a byte that does not pass
+  pub run-stop : (s : List ℕ) (i : ℕ) → i < length s → between low high (get_or s i 0) ≡ false → run_in low high (drop i s) ≡ 0
+  run-stop s i h e = ap (run_in low high) (drop-step s i h) ∙ cond-false (between low high (get_or s i 0)) (suc (run_in low high (drop (i + 1) s))) 0 e
 
 -- ---- joined
 pub joined-append : (f g : List (List ℕ)) → joined (f ++ g) ≡ joined f ++ joined g
@@ -397,6 +428,21 @@ splice-length d at s =
     (λ h. ap length (splice-in d at s h) ∙ simp (length-append, length-take-le at d (omega arith), length-drop) (omega arith))
     (λ h. ap length (splice-out d at s h))
     (le-or-lt (at + length s) (length d))
+
+-- bytes that do not fit, and bytes that were written over a part of a slice
+pub no-room : (d : List ℕ) (at : ℕ) (s : List ℕ) → fits_at d at s ≡ false → (false ≡ fits_at d at s) × (d ≡ splice d at s)
+unfolding splice
+no-room d at s e = (sym e, simp e)
+
+pub written : (d : List ℕ) (at k : ℕ) (s : List ℕ) {t : List ℕ} → k ≡ length s → t ≡ s → fits_at d at s ≡ true → (true ≡ fits_at d at s) × (put_mid at k d t ≡ splice d at s)
+written d at k s e w f = (
+  sym f,
+  ap (put_mid at k d) w
+      ∙ ap (λ (l : List ℕ). take at d ++ (s ++ l)) (drop-drop k at d)
+      ∙ ap (λ (n : ℕ). take at d ++ (s ++ drop (at + n) d)) e
+      ∙ sym (append_assoc (take at d) s (drop (at + length s) d))
+      ∙ sym (splice-in d at s (leb-true (at + length s) (length d) f)),
+)
 
 -- what was written reads back; what lies before and after is as it was
 pub splice-take : (d : List ℕ) (at : ℕ) (s : List ℕ) → at + length s ≤ length d → take (at + length s) (splice d at s) ≡ take at d ++ s

@@ -6,14 +6,14 @@ use mathlib.Core.Bool.{true, false, ◌&&◌}
 use native.Mathlib.Numerals.{add-one}
 use native.Mathlib.Omega.{arith}
 use lib.Dec.{leb}
-use lib.ListN.{length, take, drop, get_or, set, replicate, length-append, length-replicate, length-drop, replicate-append-replicate, take-append-drop}
+use lib.ListN.{length, take, drop, get_or, set, replicate, length-append, length-replicate, length-drop, take-append-drop}
 use lib.Seq.{take-append_seam, drop-append_seam, length-take-le}
 use borrow.Author.Tests.{le-leb, lt-leb, leb-true}
 use Rattle.octet.specs.Bytes.{between, all_in, same, part}
-use Rattle.octet.specs.Splice.{splice, fits_at}
+use Rattle.octet.specs.Splice.{splice}
 use Rattle.octet.specs.Padded.{fits_width, padded, PutsPadded, text_of, padded_ok}
 use Rattle.octet.proofs.Cases.{and_both, and_left, and_right, and-make, and-no-left, and-no-right, bool-ext}
-use Rattle.octet.proofs.Lists.{is-between, is_below, is-above, part-all, between-low, between-high, same_true, same_of, fits-true, fits-false, set-splice, splice-join, splice-out, splice-read}
+use Rattle.octet.proofs.Lists.{is-between, between-low, between-high, same_true, same_of, fits-true, fits-false, set-splice, splice-join, splice-out, splice-read}
 
 -- ---- fits_width
 pub fits_width_lem : (width : ℕ) (t : List ℕ) → length t < width → length t ≤ 255 → fits_width width t ≡ true
@@ -104,28 +104,6 @@ module _ (least low high : ℕ) (f : List ℕ) where
   unfolding padded_ok
   ok-zeros e = and_right (between least (length f - 1) (get_or f 0 0) && all_in low high (text_of f)) (all_in 0 0 (drop (get_or f 0 0 + 1) f)) e
 
-  -- part by part, n being the length byte
-  module _ (n : ℕ) (is : n ≡ get_or f 0 0) where
-    pub ok-too-short : n < least → padded_ok least low high f ≡ false
-    unfolding padded_ok
-    ok-too-short h = rw (is_below least (length f - 1) (get_or f 0 0) (omega arith))
-
-    pub ok-too-long : length f - 1 < n → padded_ok least low high f ≡ false
-    unfolding padded_ok
-    ok-too-long h = rw (is-above least (length f - 1) (get_or f 0 0) (omega arith))
-
-    pub ok-no-text : all_in low high (text_of f) ≡ false → padded_ok least low high f ≡ false
-    unfolding padded_ok
-    ok-no-text e =
-        and-no-left (between least (length f - 1) (get_or f 0 0) && all_in low high (text_of f)) (all_in 0 0 (drop (get_or f 0 0 + 1) f))
-        (and-no-right (between least (length f - 1) (get_or f 0 0)) (all_in low high (text_of f)) e)
-
-    pub ok-rest : least ≤ n → n ≤ length f - 1 → all_in low high (text_of f) ≡ true → padded_ok least low high f ≡ all_in 0 0 (part (n + 1) (length f) f)
-    unfolding padded_ok
-    ok-rest l h e =
-        rw (is-between least (length f - 1) (get_or f 0 0) (omega arith) (omega arith), e)
-        (ap (all_in 0 0) (ap (λ (k : ℕ). drop (k + 1) f) (sym is) ∙ sym (part-all (n + 1) (length f) f (omega arith))))
-
 -- a text in its range makes a well-formed field
 pub padded-ok : (least low high width : ℕ) (t : List ℕ) → least ≤ length t → all_in low high t ≡ true → fits_width width t ≡ true
     → padded_ok least low high (padded width t) ≡ true
@@ -195,21 +173,3 @@ module _ (d : List ℕ) (at width : ℕ) (t : List ℕ) where
   put_whole e h =
       let l : at + length (padded width t) ≤ length d = omega (arith, padded-length width t e) in
       (sym (rw e (fits-true d at (padded width t) l)), whole e h ∙ sym (rw e))
-
--- a turn of the loop that writes zeros
-pub zeros-turn : (d : List ℕ) (at i : ℕ) → at + i < length d → set (splice d at (replicate i 0)) (at + i) 0 ≡ splice d at (replicate (i + 1) 0)
-zeros-turn d at i h =
-    let l = zeros-length i in
-    set-splice (splice d at (replicate i 0)) (at + i) 0
-    ∙ ap (λ (k : ℕ). splice (splice d at (replicate i 0)) (at + k) (0 ∷ [])) (sym l)
-    ∙ splice-join d at (replicate i 0) (0 ∷ []) (omega (arith, l))
-    ∙ ap (splice d at) (replicate-append-replicate i 1 0)
-
--- zeros that do not fit, and zeros that do
-pub zeros-no-room : (d : List ℕ) (at n : ℕ) → length d < at + n → (false ≡ fits_at d at (replicate n 0)) × (d ≡ splice d at (replicate n 0))
-zeros-no-room d at n h =
-    let l : length d < at + length (replicate {A = ℕ} n 0) = omega (arith, zeros-length n) in
-    (sym (fits-false d at (replicate n 0) l), sym (splice-out d at (replicate n 0) l))
-
-pub zeros-room : (d : List ℕ) (at n : ℕ) → at + n ≤ length d → true ≡ fits_at d at (replicate n 0)
-zeros-room d at n h = sym (fits-true d at (replicate n 0) (omega (arith, zeros-length n)))

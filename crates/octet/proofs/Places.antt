@@ -3,19 +3,20 @@ use Prim.Native.Nat.{ℕ, zero, suc, ◌+◌, ◌-◌, ◌*◌, ◌/◌, ◌%◌
 use mathlib.Core.Path.{◌≡◌, refl, ap, sym, ◌∙◌}
 use mathlib.Core.List.{List, [], ◌∷◌, ◌++◌, reverse, reverse-append, reverse-reverse}
 use mathlib.Core.Bool.{true, false}
-use native.Mathlib.Nat.{pow-zero, pow-suc, pow-succ', one-le-pow, mul-one, zero-mul, mod-one, div-one, add-zero, zero-add, add-mul, mul_assoc, add_assoc, add_comm, sub_self, sub-zero, add-sub_cancel_left, mod-lt, mod-eq_of_lt, div-div-eq-div-mul, lt_of_lt_of_le, pow-le-pow_right}
+use native.Mathlib.Nat.{pow-zero, pow-suc, pow-succ', one-le-pow, mul-one, zero-mul, mod-one, div-one, add-zero, zero-add, add-mul, mul_assoc, add_assoc, add_comm, sub-zero, add-sub_cancel_left, mod-lt, mod-eq_of_lt, div-div-eq-div-mul, lt_of_lt_of_le, pow-le-pow_right}
 use native.Mathlib.Numerals.{add-one}
 use native.Mathlib.Omega.{arith}
 use lib.Arith.{mod-mul, digits_lt, digits_div, digits_mod}
 use lib.Seq.{take_all}
 use lib.Dec.{leb, lit<}
+use Rattle.std.specs.Int.{w32, w64, from_le_bytes, from_be_bytes, bytes_high_first, byte_at}
 use borrow.Author.Tests.{le-leb, lt-leb}
-use lib.ListN.{length, take, drop, get_or, set, length-reverse, length-drop, take-append-drop}
+use lib.ListN.{length, take, drop, get_or, replicate, length-reverse, length-drop, length-append, length-replicate, take-append-drop}
 use Rattle.octet.specs.Bytes.{between, all_in, same, part}
 use Rattle.octet.specs.Places.{value_of, places_of, Order, HighFirst, LowFirst, ordered, number_bytes, number_in, word_at, high, big_endian}
 use Rattle.octet.specs.Splice.{splice}
 use Rattle.octet.proofs.Cases.{cond-true, cond-false, and_both, and-make}
-use Rattle.octet.proofs.Lists.{drop-step, part-add, length_part, same_false, is-between, between-low, between-high, splice-nil, splice-read, splice_front, set-splice, all_in-reverse}
+use Rattle.octet.proofs.Lists.{drop-step, part-add, length_part, same_false, is-between, between-low, between-high, splice-read, all_in-reverse}
 
 -- ---- lengths
 pub places-length : (base nought width n : ℕ) → length (places_of base nought width n) ≡ width
@@ -45,11 +46,6 @@ value-split base nought v (b ∷ s) =
     rw (zero-mul, zero-add) (value-split base nought d s) in
     value-split base nought (v * base + d) s
     ∙ rw (front, pow-succ', add-mul, mul_assoc) (add_assoc (v * (base * p)) (d * p) (value_of base nought 0 s))
-
--- a walk: at place i
-pub value-go : (base nought v : ℕ) (s : List ℕ) (i : ℕ) → i < length s
-    → value_of base nought v (drop i s) ≡ value_of base nought (v * base + (get_or s i 0 - nought)) (drop (i + 1) s)
-value-go base nought v s i h = ap (value_of base nought v) (drop-step s i h)
 
 -- one more place fits one more place
 pub more-fits : (base i : ℕ) {v d : ℕ} → v < base ^ i → d < base → v * base + d < base ^ (i + 1)
@@ -215,52 +211,18 @@ word_none at s h = sym (cond-false (leb (at + 8) (length s)) (number_in LowFirst
 pub word-differs : (at : ℕ) (x y : List ℕ) → (word_at at x ≡ word_at at y → ⊥) → same x y ≡ false
 word-differs at x y d = same_false x y (λ e. d (ap (word_at at) e))
 
--- ---- the loops that read and write bytes
--- before the first turn of a writing loop, and after a turn: `left` places are still to be written
-pub div-start : (base width n : ℕ) → n ≡ n / base ^ (width - width)
-div-start base width n = sym (rw (sub_self, pow-zero) (div-one n))
+-- ---- bytes as the library's `from_le_bytes`, `from_be_bytes` and `to_be_bytes` tell of them
+pub little-eight : (s : List ℕ) → length s ≡ 8 → from_le_bytes w64 s ≡ number_in LowFirst s
+little-eight s h =
+    let e : number_in LowFirst (part 0 8 s) ≡ number_in LowFirst s = ap (number_in LowFirst) (take_all 8 s (omega arith)) in
+    omega (arith, e, low-eight s 0 (omega arith), low-four s 0 (omega arith), low-four s 4 (omega arith))
 
-pub put-start : (base nought : ℕ) (d : List ℕ) (at width n : ℕ) → d ≡ splice d (at + width) (places_of base nought (width - width) n)
-put-start base nought d at width n = rw sub_self (sym (splice-nil d (at + width)))
-
-module _ (base nought : ℕ) (d₀ : List ℕ) (at width left n : ℕ) (some : 0 < left) (within : left ≤ width) where
-  turn : width - (left - 1) ≡ suc (width - left)
-  turn = omega arith
-
-  pub div-turn : (m : ℕ) → m ≡ n / base ^ (width - left) → m / base ≡ n / base ^ (width - (left - 1))
-  div-turn m e = ap (λ (k : ℕ). k / base) e ∙ rw (turn, pow-suc) (div-div-eq-div-mul n (base ^ (width - left)) base)
-
-  pub put-turn : (d : List ℕ) (m b : ℕ) → at + width ≤ length d₀ → m ≡ n / base ^ (width - left) → b ≡ nought + m % base
-      → d ≡ splice d₀ (at + left) (places_of base nought (width - left) n)
-      → set d (at + (left - 1)) b ≡ splice d₀ (at + (left - 1)) (places_of base nought (width - (left - 1)) n)
-  put-turn d m b room em eb ed =
-      let p = at + (left - 1) in
-      let x = places_of base nought (width - left) n in
-      let i : at + left ≡ p + 1 = omega arith in
-      ap (set d p) eb
-      ∙ set-splice d p (nought + m % base)
-      ∙ ap (λ (l : List ℕ). splice l p ((nought + m % base) ∷ [])) (ed ∙ ap (λ (k : ℕ). splice d₀ k x) i)
-      ∙ splice_front d₀ p ((nought + m % base) ∷ []) x (omega (arith, places-length base nought (width - left) n))
-      ∙ ap (λ (k : ℕ). splice d₀ p ((nought + k % base) ∷ x)) em
-      ∙ ap (λ (k : ℕ). splice d₀ p (places_of base nought k n)) (sym turn)
-
-pub put-done : (base nought : ℕ) (d d₀ : List ℕ) (at width left n : ℕ) → left ≤ 0
-    → d ≡ splice d₀ (at + left) (places_of base nought (width - left) n) → d ≡ splice d₀ at (places_of base nought width n)
-put-done base nought d d₀ at width left n h e =
-    let i : at + left ≡ at = omega arith in
-    let j : width - left ≡ width = omega arith in
-    e ∙ ap (λ (k : ℕ). splice d₀ k (places_of base nought (width - left) n)) i ∙ ap (λ (k : ℕ). splice d₀ at (places_of base nought k n)) j
-
--- a number of at most eight bytes, the high one first, fits
-pub high_is : (width n : ℕ) → high width n ≡ places_of 256 0 width n
-unfolding number_bytes
-high_is width n = refl
-
+-- the high one first
 pub big-is : (s : List ℕ) → big_endian s ≡ value_of 256 0 0 s
 unfolding number_in
 big-is s = refl
 
--- its bytes one by one, and eight as two fours
+-- one by one, and eight as two fours
 high-step : (s : List ℕ) (i n v : ℕ) → i < length s → value_of 256 0 v (part i (suc n) s) ≡ value_of 256 0 (v * 256 + get_or s i 0) (part (i + 1) n s)
 high-step s i n v h =
     ap (λ (l : List ℕ). value_of 256 0 v (take (suc n) l)) (drop-step s i h)
@@ -286,3 +248,39 @@ high-eight s h =
     ∙ value-split 256 0 (value_of 256 0 0 (take 4 s)) (drop 4 s)
     ∙ ap (λ (k : ℕ). value_of 256 0 0 (take 4 s) * 256 ^ k + value_of 256 0 0 (drop 4 s)) n
     ∙ ap (λ (l : List ℕ). value_of 256 0 0 (take 4 s) * 4294967296 + value_of 256 0 0 l) (sym (take_all 4 (drop 4 s) (omega arith)))
+
+pub big-four : (s : List ℕ) → length s ≡ 4 → from_be_bytes w32 s ≡ big_endian s
+big-four s h =
+    let e : big_endian (part 0 4 s) ≡ big_endian s = ap big_endian (take_all 4 s (omega arith)) in
+    omega (arith, e, high-four s 0 (omega arith))
+
+pub big-eight : (s : List ℕ) → length s ≡ 8 → from_be_bytes w64 s ≡ big_endian s
+big-eight s h = omega (arith, high-eight s h, high-four s 0 (omega arith), high-four s 4 (omega arith))
+
+-- zeros before a number do not count, so fewer bytes than n are read with zeros before them
+big-zeros : (k : ℕ) (s : List ℕ) → big_endian (replicate k 0 ++ s) ≡ big_endian s
+unfolding number_in
+big-zeros zero s = refl
+big-zeros (suc k) s = big-zeros k s
+
+abbrev pub filled_up : ℕ → List ℕ → List ℕ
+filled_up n s = replicate (n - length s) 0 ++ s
+
+filled-length : (n : ℕ) (s : List ℕ) → length s ≤ n → length (filled_up n s) ≡ n
+filled-length n s h = simp (length-append, length-replicate) (omega arith)
+
+pub four-filled : (s : List ℕ) → length s ≤ 4 → from_be_bytes w32 (filled_up 4 s) ≡ big_endian s
+four-filled s h = big-four (filled_up 4 s) (filled-length 4 s h) ∙ big-zeros (4 - length s) s
+
+pub eight-filled : (s : List ℕ) → length s ≤ 8 → from_be_bytes w64 (filled_up 8 s) ≡ big_endian s
+eight-filled s h = big-eight (filled_up 8 s) (filled-length 8 s h) ∙ big-zeros (8 - length s) s
+
+-- a number's bytes
+byte-is : (k n : ℕ) → byte_at k n ≡ 0 + n / 256 ^ k % 256
+byte-is zero n = sym (zero-add (n / 1 % 256) ∙ ap (λ (m : ℕ). m % 256) (div-one n))
+byte-is (suc k) n = sym (zero-add (n / 256 ^ suc k % 256))
+
+pub high-bytes : (width n : ℕ) → bytes_high_first width n ≡ high width n
+unfolding number_bytes
+high-bytes zero n = refl
+high-bytes (suc width) n = ap (λ (b : ℕ). b ∷ bytes_high_first width n) (byte-is width n) ∙ ap (λ (l : List ℕ). (0 + n / 256 ^ width % 256) ∷ l) (high-bytes width n)

@@ -15,7 +15,7 @@ use Rattle.octet.proofs.Lists.{drop-done, splice-length}
 use Rattle.answer.specs.Numbers.{largest, nine_digits}
 use Rattle.fill.specs.Slot.{Slot, slot_width}
 use Rattle.fill.specs.Booked.{slot_lawful}
-use Rattle.book.specs.Memory.{most_slots, book_width, region_of, slots_here, rows_here, slots_in, rows_in, laid, entered, holding, between, TakesOff}
+use Rattle.book.specs.Memory.{most_slots, book_width, region_of, slots_here, rows_here, slots_in, rows_in, laid, entered, holding, between}
 use Rattle.book.specs.Rows.{Row, row_width, row_to, day_with, rows_without, day_without}
 use Rattle.book.specs.Place.{is_new, most_orders}
 use Rattle.book.specs.Admitting.{place, has_room, no_load, load_with, booking_of, admit_of}
@@ -32,8 +32,9 @@ use Rattle.note.proofs.Keeping.{Slotted, read_is, lawful-books, bookable-facts, 
 use Rattle.restart.specs.declared.Counts.{Counts}
 use Rattle.restart.specs.declared.Step.{Step}
 use Rattle.restart.specs.declared.Step.TheVariants as step
-use Rattle.restart.specs.declared.Restarted.TheVariants as restarted
-use Rattle.restart.specs.Restart.{Outcome, Again, Unlawful, restart, counts_of, told, book_after, HasDay, load_in}
+use Rattle.restart.specs.declared.Restarted.{Restarted}
+use Rattle.std.specs.Prelude.{Result, Ok, Err}
+use Rattle.restart.specs.Restart.{Outcome, Again, Unlawful, restart, counts_of, tells, told, book_after, HasDay, load_in}
 use Rattle.restart.specs.Steps.{kept_in, bare, is_next, step_note, step_read, mem_note, mem_read}
 use Rattle.restart.proofs.Going.{go, restart-go, go-end, go-part, go-unknown, go-bad, go_on, some-taken, GivenIn}
 
@@ -216,13 +217,13 @@ module _ (m : Counts) (mem s : List ℕ) (at : ℕ) where
 
 -- ---- the end of a replay
 pub replay-ends : (o : Outcome) (m : Counts) (mem mem' : List ℕ) (at : ℕ) → o ≡ Again (kept_in m mem) at → mem' ≡ mem
-    → (restarted.Again m at ≡ told o) × HasDay mem' o
+    → (tells m at ≡ told o) × HasDay mem' o
 replay-ends o m mem mem' at e f =
     let w : slots_in (length (slots_in m.last mem)) mem' ≡ slots_in m.last mem = ap₂ slots_in (last-is m mem) f in
     let v : rows_in (length (rows_in m.orders mem)) mem' ≡ rows_in m.orders mem = ap₂ rows_in (rows-length m.orders mem) f in
-    (ap (λ (k : Counts). restarted.Again k at) (sym (counts-kept m mem)) ∙ sym (ap told e), subst (HasDay mem') (sym e) (w, v))
+    (ap (λ (k : Counts). tells k at) (sym (counts-kept m mem)) ∙ sym (ap told e), subst (HasDay mem') (sym e) (w, v))
 
-pub replay-bad : (o : Outcome) (mem' : List ℕ) (at : ℕ) → o ≡ Unlawful at → (restarted.Unlawful at ≡ told o) × HasDay mem' o
+pub replay-bad : (o : Outcome) (mem' : List ℕ) (at : ℕ) → o ≡ Unlawful at → (Err at ≡ told o) × HasDay mem' o
 replay-bad o mem' at e = (sym (ap told e), subst (HasDay mem') (sym e) tt)
 
 pub start : (notes mem : List ℕ) (m : Counts) → m ≡ counts_of empty → restart notes ≡ go (kept_in m mem) 0 notes
@@ -249,17 +250,17 @@ module _ (l s : List ℕ) (o : Outcome) (m : Counts) (mem mem' : List ℕ) (at :
       )
 
   pub turn_end : s ≡ drop at l → o ≡ go (kept_in m mem) at (drop at l) → step.End ≡ step_read (kept_in m mem) (read_note s) → mem' ≡ mem_read mem (kept_in m mem) (read_note s)
-      → (restarted.Again m at ≡ told o) × HasDay mem' o
+      → (tells m at ≡ told o) × HasDay mem' o
   turn_end es eo t em =
       let g = end_goes m mem s at t in
       replay-ends o m mem mem' at (eo ∙ ap (go (kept_in m mem) at) (sym es) ∙ g.0) (em ∙ g.1)
 
   pub turn-bad : s ≡ drop at l → o ≡ go (kept_in m mem) at (drop at l) → step.Bad ≡ step_read (kept_in m mem) (read_note s)
-      → (restarted.Unlawful at ≡ told o) × HasDay mem' o
+      → (Err at ≡ told o) × HasDay mem' o
   turn-bad es eo t = replay-bad o mem' at (eo ∙ ap (go (kept_in m mem) at) (sym es) ∙ bad-goes m mem s at t)
 
 pub turns-done : (l : List ℕ) (o : Outcome) (m : Counts) (mem : List ℕ) (at : ℕ) → o ≡ go (kept_in m mem) at (drop at l) → length l ≤ at
-    → (restarted.Again m at ≡ told o) × HasDay mem o
+    → (tells m at ≡ told o) × HasDay mem o
 turns-done l o m mem at eo h =
     replay-ends o m mem mem at (eo ∙ ap (go (kept_in m mem) at) (drop-done l at h) ∙ go-end (kept_in m mem) at) refl
 
@@ -291,18 +292,10 @@ pub mem-raises : (mem : List ℕ) (q : Kept) (e o : ℕ) → mem ≡ mem_note me
 unfolding mem_note
 mem-raises mem q e o = refl
 
--- what an acknowledge takes off, from the numbers that it was given
-pub taken_as : (mem : List ℕ) (m : Counts) (n last orders acked to r : ℕ) (mem' : List ℕ) → last ≡ m.last → orders ≡ m.orders → acked ≡ m.acked → to ≡ n
-    → TakesOff mem last orders acked to m.day r mem' → TakesOff mem m.last m.orders m.acked n m.day r mem'
-taken_as mem m n last orders acked to r mem' el eo ea en t =
-    subst (λ (k : ℕ). TakesOff mem m.last m.orders m.acked k m.day r mem') en
-    (subst (λ (k : ℕ). TakesOff mem m.last m.orders k to m.day r mem') ea
-    (subst (λ (k : ℕ). TakesOff mem m.last k acked to m.day r mem') eo
-    (subst (λ (k : ℕ). TakesOff mem k orders acked to m.day r mem') el t)))
-
-pub mem-stays : (mem : List ℕ) (q : Kept) (n : ℕ) → false ≡ lawful q (Acks n) → mem ≡ mem_note mem q (Acks n)
+pub acks-no : (mem : List ℕ) (q : Kept) (n : ℕ) → false ≡ lawful q (Acks n) → (step.Bad ≡ step_note q (Acks n)) × (mem ≡ mem_note mem q (Acks n))
 unfolding mem_note
-mem-stays mem q n t = sym (cond-false (lawful q (Acks n)) (laid rows_here mem (rows_without q.slots q.rows (between q.acked n q.slots))) mem (sym t))
+acks-no mem q n t =
+    (step-no q (Acks n) t, sym (cond-false (lawful q (Acks n)) (laid rows_here mem (rows_without q.slots q.rows (between q.acked n q.slots))) mem (sym t)))
 
 pub mem-acks : (mem mem' : List ℕ) (q : Kept) (n : ℕ) → true ≡ lawful q (Acks n) → mem' ≡ laid rows_here mem (rows_without q.slots q.rows (between q.acked n q.slots))
     → mem' ≡ mem_note mem q (Acks n)
@@ -313,10 +306,11 @@ pub mem-clears : (mem : List ℕ) (q : Kept) → mem ≡ mem_note mem q Clears
 unfolding mem_note
 mem-clears mem q = refl
 
-pub mem-no : (mem : List ℕ) (q : Kept) (e o : ℕ) (s : Slot) → false ≡ lawful q (Books e o s) → mem ≡ mem_note mem q (Books e o s)
+pub books-no : (mem : List ℕ) (q : Kept) (e o : ℕ) (s : Slot) → false ≡ lawful q (Books e o s)
+    → (step.Bad ≡ step_note q (Books e o s)) × (mem ≡ mem_note mem q (Books e o s))
 unfolding mem_note
-mem-no mem q e o s t =
-    sym (cond-false (lawful q (Books e o s)) (entered mem (length q.slots) q.load.orders (row_to q.slots q.rows s) s) mem (sym t))
+books-no mem q e o s t =
+    (step-no q (Books e o s) t, sym (cond-false (lawful q (Books e o s)) (entered mem (length q.slots) q.load.orders (row_to q.slots q.rows s) s) mem (sym t)))
 
 module _ (m : Counts) (mem : List ℕ) (e o : ℕ) (s : Slot) (t : true ≡ lawful (kept_in m mem) (Books e o s)) where
   abbrev ss : List Slot
@@ -345,17 +339,22 @@ module _ (m : Counts) (mem : List ℕ) (e o : ℕ) (s : Slot) (t : true ≡ lawf
   load_fits hf ho he = booking-load ss rows (load_in m) s hf ho he room
 
 -- ---- the used slots and rows of the replay are copied into the book
+counts_in : Counts → Result Restarted ℕ → Counts
+counts_in k (Ok again) = again.counts
+counts_in k (Err at) = k
+
 -- only they are written
-pub book-is : (o : Outcome) (book mem : List ℕ) (k : Counts) (whole most : ℕ) → restarted.Again k whole ≡ told o → GivenIn most o → HasDay mem o
+pub book-is : (o : Outcome) (book mem : List ℕ) (k : Counts) (whole most : ℕ) → tells k whole ≡ told o → GivenIn most o → HasDay mem o
     → holding book (slots_in k.last mem) (rows_in k.orders mem) ≡ book_after book o
+unfolding counts_in
 book-is (Again q w) book mem k whole most e g h =
-    let f : k ≡ counts_of q = cc in
+    let f : k ≡ counts_of q = ap (counts_in k) e in
     ap₂ (holding book)
     (ap (λ (x : Counts). slots_in x.last mem) f ∙ h.0)
     (ap (λ (x : Counts). rows_in x.orders mem) f ∙ ap (λ (n : ℕ). rows_in n mem) (sym (rows-many q g.sound)) ∙ h.1)
 book-is (Unlawful at) book mem k whole most e g h = never cc
 
-pub book-stays : (o : Outcome) (book : List ℕ) (at : ℕ) → restarted.Unlawful at ≡ told o → book ≡ book_after book o
+pub book-stays : (o : Outcome) (book : List ℕ) (at : ℕ) → Err at ≡ told o → book ≡ book_after book o
 book-stays (Again q w) book at e = never cc
 book-stays (Unlawful p) book at e = refl
 
@@ -385,6 +384,6 @@ slots-there (Again q w) book book' most g e l =
     (ap (slots_in (length q.slots)) e ∙ book-slots q g.sound book l, ap (rows_in (length q.rows)) e ∙ book-rows q g.sound book l)
 slots-there (Unlawful at) book book' most g e l = tt
 
-pub slots-none : (o : Outcome) (mem : List ℕ) (at : ℕ) → restarted.Unlawful at ≡ told o → HasDay mem o
+pub slots-none : (o : Outcome) (mem : List ℕ) (at : ℕ) → Err at ≡ told o → HasDay mem o
 slots-none (Again q w) mem at e = never cc
 slots-none (Unlawful p) mem at e = tt

@@ -1,5 +1,5 @@
 -- "A restart reads whole notes, drops a part at the end, and says how many bytes are whole."
-use Rattle.std.specs.Prelude.{ℕ, zero, suc, ◌+◌, ◌≡◌, List, cond, length, drop}
+use Rattle.std.specs.Prelude.{ℕ, zero, suc, ◌+◌, ◌≡◌, List, cond, length, drop, Result, Ok, Err}
 use Rattle.std.proofs.Math.Option.{Option, none, some}
 use Rattle.book.specs.Memory.{slots_in, rows_in, holding}
 use Rattle.book.specs.declared.Load.{Load}
@@ -9,7 +9,6 @@ use Rattle.answer.specs.declared.Refusal.{Refusal}
 use Rattle.answer.specs.declared.Refusal.TheVariants as refusal
 use Rattle.restart.specs.declared.Counts.{Counts}
 use Rattle.restart.specs.declared.Restarted.{Restarted}
-use Rattle.restart.specs.declared.Restarted.TheVariants as restarted
 
 -- what is kept, and how many bytes are whole; or "unlawful note, with its first byte's place, from 0"
 pub data Outcome : Type 0 where
@@ -48,18 +47,22 @@ counts_of q = record {
 abbrev pub load_in : Counts → Load
 load_in m = record { fills = m.fills; orders = m.orders; entries = m.entries }
 
-abbrev pub told : Outcome → Restarted
-told (Again q whole) = restarted.Again (counts_of q) whole
-told (Unlawful at) = restarted.Unlawful at
+-- what is kept and how many bytes are whole, as it is answered
+abbrev pub tells : Counts → ℕ → Result Restarted ℕ
+tells counts whole = Ok (record { counts = counts; whole = whole })
+
+abbrev pub told : Outcome → Result Restarted ℕ
+told (Again q whole) = tells (counts_of q) whole
+told (Unlawful at) = Err at
 
 -- what is told of it: "8: unlawful note, with its first byte's place, from 0", or how many bytes are whole
-abbrev pub refused_by : Restarted → Option Refusal
-refused_by (restarted.Again counts whole) = none
-refused_by (restarted.Unlawful at) = some (refusal.Unlawful at)
+abbrev pub refused_by : Result Restarted ℕ → Option Refusal
+refused_by (Ok again) = none
+refused_by (Err at) = some (refusal.Unlawful at)
 
-abbrev pub whole_in : Restarted → ℕ
-whole_in (restarted.Again counts whole) = whole
-whole_in (restarted.Unlawful at) = 0
+abbrev pub whole_in : Result Restarted ℕ → ℕ
+whole_in (Ok again) = again.whole
+whole_in (Err at) = 0
 
 -- the book after it: only the used slots and rows are written; "Nothing changes" where it is refused
 abbrev pub book_after : List ℕ → Outcome → List ℕ
@@ -72,5 +75,5 @@ HasDay mem (Again q whole) = (slots_in (length q.slots) mem ≡ q.slots) × (row
 HasDay mem (Unlawful at) = Unit
 
 -- what a restart answers and leaves in the lent book
-abbrev pub Restarts : List ℕ → Outcome → Restarted → List ℕ → Type 0
+abbrev pub Restarts : List ℕ → Outcome → Result Restarted ℕ → List ℕ → Type 0
 Restarts book o r book' = (r ≡ told o) × (book' ≡ book_after book o) × HasDay book' o

@@ -1,5 +1,5 @@
 -- One note, as a restart takes it: the counts by value, the slots and the rows in memory, and what each is after the note.
-use Rattle.std.specs.Prelude.{ℕ, ◌+◌, List, [], Bool, cond, ◌&&◌, ◌||◌, ◌≡◌, length, leb, ltb, eqb}
+use Rattle.std.specs.Prelude.{ℕ, ◌+◌, List, [], Bool, cond, ◌&&◌, ◌||◌, ◌≡◌, length, leb, ltb, eqb, Result}
 use Rattle.answer.specs.Numbers.{nine_digits}
 use Rattle.book.specs.Rows.{row_to, rows_without}
 use Rattle.book.specs.Memory.{book_width, slots_in, rows_here, rows_in, laid, entered, between}
@@ -64,5 +64,5 @@ abbrev pub Steps : List ℕ → Kept → Reading → Step → List ℕ → Type 
 Steps mem q reading r mem' = (r ≡ step_read q reading) × (mem' ≡ mem_read mem q reading)
 
 -- the notes one by one, their slots and rows into a memory
-abbrev pub Replays : Outcome → Restarted → List ℕ → Type 0
+abbrev pub Replays : Outcome → Result Restarted ℕ → List ℕ → Type 0
 Replays o r mem' = (r ≡ told o) × HasDay mem' o × (length mem' ≡ book_width)

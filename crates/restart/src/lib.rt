@@ -15,7 +15,7 @@ use note::Read;
 
 // What the notes keep but for the slots and the order rows, which are in the lent book: last is the last number given, as many slots there
 // are, and day the contracts waiting. The load is here as three numbers: a struct in a struct would be copied with every note.
-#[derive(Clone, Copy)]
+#[derive(Clone, Copy, Default)]
 pub struct Counts {
     pub e: u32,
     pub o: u32,
@@ -27,25 +27,19 @@ pub struct Counts {
     pub day: u32,
 }
 
-// What is kept and how many bytes of the notes are whole; or the place of the first byte of an unlawful note.
+// What is kept, and how many bytes of the notes are whole.
 #[derive(Clone, Copy)]
-pub enum Restarted {
-    Again(Counts, usize),
-    Unlawful(usize),
+pub struct Restarted {
+    pub counts: Counts,
+    pub whole: usize,
 }
 
-// What one note does: the restart goes on with these counts, ends before a part, or refuses.
+// What one note does: the restart goes on with these counts, ends before a part, or refuses. Stays an enum: these are three answers.
 #[derive(Clone, Copy)]
 pub enum Step {
     On(Counts),
     End,
     Bad,
-}
-
-fn wide(n: u32) -> usize
-    ensures { (result ≡ n) × (result ≤ 4294967295) }
-{
-    n as usize
 }
 
 // The load that is among the counts, as the book asks for it.
@@ -63,29 +57,15 @@ pub fn load_in(m: Counts) -> Load
 fn raises(m: Counts, e: u32, o: u32) -> bool
     ensures { result ≡ raised m e o }
 {
-    if m.e < e {
-        return true;
-    }
-    m.o < o
+    m.e < e || m.o < o
 }
 
 // "S raises E or O, lowers neither, both at most 999,999,999".
+#[tactic(auto, unfolding(note::specs::Kept::lawful))]
 fn raises_lawful(m: Counts, e: u32, o: u32) -> bool
     ensures { result ≡ lawful (bare m) (Raises e o) }
 {
-    if !raises(m, e, o) {
-        return false;
-    }
-    if e < m.e {
-        return false;
-    }
-    if o < m.o {
-        return false;
-    }
-    if NINE_DIGITS < e {
-        return false;
-    }
-    o <= NINE_DIGITS
+    raises(m, e, o) && m.e <= e && m.o <= o && e <= NINE_DIGITS && o <= NINE_DIGITS
 }
 
 fn step_raises(m: Counts, e: u32, o: u32) -> Step
@@ -94,46 +74,25 @@ fn step_raises(m: Counts, e: u32, o: u32) -> Step
     if !raises_lawful(m, e, o) {
         return Step::Bad;
     }
-    Step::On(Counts {
-        e,
-        o,
-        last: m.last,
-        fills: m.fills,
-        orders: m.orders,
-        entries: m.entries,
-        acked: m.acked,
-        day: m.day,
-    })
+    Step::On(Counts { e, o, ..m })
 }
 
 // "K is above the mark and at most the last fill", or entry. What it acknowledges is taken off the sums.
 fn step_acks(mem: &mut [u8; BOOK], m: Counts, n: u32) -> Step
     ensures { Takes mem.old (kept_in m mem.old) (Acks n) result mem.new }
 {
-    if n <= m.acked {
-        return Step::Bad;
-    }
-    if m.last < n {
+    if n <= m.acked || m.last < n {
         return Step::Bad;
     }
     let day = book::take_off(
         mem,
-        wide(m.last),
-        wide(m.orders),
-        wide(m.acked),
-        wide(n),
+        m.last as usize,
+        m.orders as usize,
+        m.acked as usize,
+        n as usize,
         m.day,
     );
-    Step::On(Counts {
-        e: m.e,
-        o: m.o,
-        last: m.last,
-        fills: m.fills,
-        orders: m.orders,
-        entries: m.entries,
-        acked: n,
-        day,
-    })
+    Step::On(Counts { acked: n, day, ..m })
 }
 
 // "fresh: .. E = O = 1", and nothing booked.
@@ -143,12 +102,7 @@ fn empty_counts() -> Counts
     Counts {
         e: 1,
         o: 1,
-        last: 0,
-        fills: 0,
-        orders: 0,
-        entries: 0,
-        acked: 0,
-        day: 0,
+        ..Counts::default()
     }
 }
 
@@ -166,16 +120,7 @@ fn step_clears(m: Counts) -> Step
 fn is_next(m: Counts, e: u32, o: u32) -> bool
     ensures { result ≡ is_next m e o }
 {
-    if e < 1 {
-        return false;
-    }
-    if e - 1 != m.e {
-        return false;
-    }
-    if NINE_DIGITS < e {
-        return false;
-    }
-    o == m.o
+    m.e < NINE_DIGITS && e == m.e + 1 && o == m.o
 }
 
 // "F has E one up within that, O the same, and a report that would be booked"; C alike, with an entry. The slot is written after the last one,
@@ -183,11 +128,8 @@ fn is_next(m: Counts, e: u32, o: u32) -> bool
 fn step_books(mem: &mut [u8; BOOK], m: Counts, e: u32, o: u32, slot: &[u8]) -> Step
     ensures { Takes mem.old (kept_in m mem.old) (Books e o slot.now) result mem.new }
 {
-    let last = wide(m.last);
-    if !is_next(m, e, o) {
-        return Step::Bad;
-    }
-    if !fill::is_lawful(slot) {
+    let last = m.last as usize;
+    if !is_next(m, e, o) || !fill::is_lawful(slot) {
         return Step::Bad;
     }
     match book::admit(mem, last, load_in(m), slot) {
@@ -196,7 +138,7 @@ fn step_books(mem: &mut [u8; BOOK], m: Counts, e: u32, o: u32, slot: &[u8]) -> S
         Admitted::Full => Step::Bad,
         Admitted::New(booking) => {
             let more = booking.load;
-            book::enter(mem, last, wide(m.orders), booking.row, slot);
+            book::enter(mem, last, m.orders as usize, booking.row, slot);
             Step::On(Counts {
                 e,
                 o,
@@ -204,8 +146,8 @@ fn step_books(mem: &mut [u8; BOOK], m: Counts, e: u32, o: u32, slot: &[u8]) -> S
                 fills: more.fills,
                 orders: more.orders,
                 entries: more.entries,
-                acked: m.acked,
                 day: book::day_with(m.day, slot),
+                ..m
             })
         }
     }
@@ -226,8 +168,8 @@ fn take_note(mem: &mut [u8; BOOK], m: Counts, says: Read, s: &[u8]) -> Step
     }
 }
 
-// The notes one by one, their slots and rows into mem.
-fn replay(mem: &mut [u8; BOOK], notes: &[u8]) -> Restarted
+// The notes one by one, their slots and rows into mem; or the place of the first byte of an unlawful note.
+fn replay(mem: &mut [u8; BOOK], notes: &[u8]) -> Result<Restarted, usize>
     requires { length mem.old ≡ book_width }
     ensures { Replays (restart notes.now) result mem.new }
 {
@@ -236,34 +178,38 @@ fn replay(mem: &mut [u8; BOOK], notes: &[u8]) -> Restarted
     while at < notes.len() {
         let rest = &notes[at..];
         let first = note::read_note(rest);
-        let says = first.says;
-        match take_note(mem, m, says, rest) {
+        match take_note(mem, m, first.says, rest) {
             Step::On(next) => {
                 m = next;
                 at += first.taken;
             }
             Step::End => {
-                return Restarted::Again(m, at);
+                return Ok(Restarted {
+                    counts: m,
+                    whole: at,
+                });
             }
-            Step::Bad => {
-                return Restarted::Unlawful(at);
-            }
+            Step::Bad => return Err(at),
         }
     }
-    Restarted::Again(m, at)
+    Ok(Restarted {
+        counts: m,
+        whole: at,
+    })
 }
 
-// A restart into the lent book. The notes are replayed into an array of the call's own, and only the used slots and rows are copied:
+// A restart into the lent book; or the place of the first byte of an unlawful note. The notes are replayed into an array of the call's own, and only the used slots and rows are copied:
 // where a note is unlawful the book stays as it was, and a slot of a day before leaves no trace.
-pub fn restart(book: &mut [u8; BOOK], notes: &[u8]) -> Restarted
+pub fn restart(book: &mut [u8; BOOK], notes: &[u8]) -> Result<Restarted, usize>
     ensures { Restarts book.old (restart notes.now) result book.new }
 {
     let mut mem = [0u8; BOOK];
-    match replay(&mut mem, notes) {
-        Restarted::Again(counts, whole) => {
-            book::put_day(book, wide(counts.last), wide(counts.orders), &mem);
-            Restarted::Again(counts, whole)
-        }
-        Restarted::Unlawful(at) => Restarted::Unlawful(at),
-    }
+    let again = replay(&mut mem, notes)?;
+    book::put_day(
+        book,
+        again.counts.last as usize,
+        again.counts.orders as usize,
+        &mem,
+    );
+    Ok(again)
 }

@@ -14,8 +14,9 @@ use borrow.Author.Tests.{eqb-true}
 use Rattle.octet.specs.Maybe.{or_else}
 use Rattle.octet.proofs.Cases.{of-cond}
 use Rattle.value.specs.Place.{FailsAt, Places}
-use Rattle.value.specs.declared.Check.{Check}
-use Rattle.value.specs.declared.Check.TheVariants as check
+use Rattle.std.specs.Prelude.{Result, Ok, Err}
+use Rattle.value.specs.declared.Flaw.{Flaw}
+use Rattle.value.specs.declared.Flaw.TheVariants as flaw
 use Rattle.value.proofs.Forms.{checked-bad}
 use Rattle.value.proofs.Place.{number-places, price-places, time-places, graph-places}
 use Rattle.field.specs.Pieces.{Pieces, text_at, count_of, scan_of}
@@ -99,14 +100,14 @@ record Fails (ps : Pieces) (row : Row) (f : Fault) : Type 0 where
   fails : FailsAt (Formed (asked_by row).form) (text_at f.tag ps) f.at
 
 module _ (given : Given) (ps : Pieces) (row : Row) where
-  check-sited : count_of (asked_by row).tag ps ≡ 1 → (c : Check) → value_check given (look_of ps) (asked_by row).form (text_at (asked_by row).tag ps) ≡ c
+  check-sited : count_of (asked_by row).tag ps ≡ 1 → (c : Result Unit Flaw) → value_check given (look_of ps) (asked_by row).form (text_at (asked_by row).tag ps) ≡ c
       → SitedIf (Fails ps row) (check_fault (asked_by row).tag c)
-  check-sited n check.Good e = tt
-  check-sited n (check.BadForm at) e =
+  check-sited n (Ok a) e = tt
+  check-sited n (Err (flaw.Form at)) e =
       let v = text_at (asked_by row).tag ps in
       let form = (asked_by row).form in
       inl (refl, record { names = refl; once = n; fails = ((form-places form).fails v at).0 (checked-bad (bad_form form v) (fits given (look_of ps) form v) at e) })
-  check-sited n check.OutOfRange e = inr (λ h. omega arith, refl)
+  check-sited n (Err flaw.Range) e = inr (λ h. omega arith, refl)
 
   tag-sited : SitedIf (Fails ps row) (tag_fault given (look_of ps) (asked_by row).tag (asked_by row).needed (asked_by row).form)
   unfolding tag_fault

@@ -2,8 +2,7 @@
 use mathlib.Core.Path.{◌≡◌, refl, sym, ap, ◌∙◌}
 use mathlib.Core.Option.{Option, none, some}
 use Rattle.answer.specs.declared.Fault.{Fault}
-use Rattle.table.specs.declared.Judgement.{Judgement}
-use Rattle.table.specs.declared.Judgement.TheVariants.{Fine, Faulty}
+use Rattle.std.specs.Prelude.{Result, Ok, Err}
 use Rattle.table.specs.Steps.{found}
 use Rattle.octet.proofs.Once.{Once, alone, by, first}
 use Rattle.table.specs.contracts.rows.kind_of as kind-of
@@ -11,13 +10,13 @@ use Rattle.table.specs.contracts.walk.number_at as number_at
 use Rattle.table.specs.contracts.fault_in as fault-in
 
 -- a judgement is known by its fault
-abbrev pub judged : Option Fault → Judgement
-judged none = Fine
-judged (some f) = Faulty f
+abbrev pub judged : Option Fault → Result Unit Fault
+judged none = Ok tt
+judged (some f) = Err f
 
-pub judged-found : (r : Judgement) → judged (found r) ≡ r
-judged-found Fine = refl
-judged-found (Faulty f) = refl
+pub judged-found : (r : Result Unit Fault) → judged (found r) ≡ r
+judged-found (Ok tt) = refl
+judged-found (Err f) = refl
 
 pub kind-of-once : Once kind-of.ended (λ M 𝓤. kind-of.clauses) (λ κs r e. r)
 kind-of-once M 𝓤 𝓛 mem run κs a g = (_, λ r e. alone 𝓤)

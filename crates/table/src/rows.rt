@@ -1,14 +1,12 @@
 // The rows of the tables, as the paper has them, and the kinds of message.
-ghost use Rattle.std.specs.Prelude.{◌≡◌};
-ghost use Rattle.answer.specs.declared.Kind.TheVariants as kind;
-ghost use Rattle.table.specs.Rows.{header_rows, report_rows, correction_rows, rows_of, table_of, cell_of, kind_of};
+ghost use Rattle.std.specs.Prelude.{◌≡◌, map};
+ghost use Rattle.table.specs.Rows.{rows_of, here_of, kind_of};
 
-use super::{Cell, Codes, Form, Range, Row, Where};
+use super::{Codes, Form, Range, Row, Where};
 use answer::{Kind, Setup};
 use field::columns;
 
-// Each row is a constant of its own, so that one is laid out where one is asked for. The rows of a type are taken in order, by their place, each with the column
-// that its tag has in a body's index: so no tag is looked up.
+// The rows of a type are taken in order, each with the column that its tag has in a body's index: so no tag is looked up.
 
 // "all: 52 UTC time; optional 43, 97: Y or N".
 const SENT: Row = Row::Needs(52, Form::Time, Where::Always);
@@ -16,8 +14,6 @@ const SENT: Row = Row::Needs(52, Form::Time, Where::Always);
 const AGAIN: Row = Row::May(43, Form::Code(Codes::YesNo), Where::Always);
 
 const RESENT: Row = Row::May(97, Form::Code(Codes::YesNo), Where::Always);
-
-const HEADER_ROWS: usize = 3;
 
 // 8, "In table order".
 const EXEC_ID: Row = Row::Needs(17, Form::Graph(Range::Of(1, 20)), Where::Always);
@@ -90,140 +86,74 @@ const FILLING: Row = Row::May(123, Form::Code(Codes::YesNo), Where::Always);
 
 const TO: Row = Row::Needs(36, Form::Number(Range::Of(1, 999_999_999)), Where::Always);
 
-// The row at a place of the header's.
-fn header_row(i: usize) -> Cell
-    ensures { result ≡ cell_of header_rows i }
-{
-    match i {
-        0 => Cell::Here(SENT, columns::SENT),
-        1 => Cell::Here(AGAIN, columns::AGAIN),
-        2 => Cell::Here(RESENT, columns::RESENT),
-        _ => Cell::End,
-    }
-}
+pub(crate) static HEADER_ROWS: [(Row, usize); 3] = [
+    (SENT, columns::SENT),
+    (AGAIN, columns::AGAIN),
+    (RESENT, columns::RESENT),
+];
 
-// The row at a place of a report's.
-fn report_row(i: usize) -> Cell
-    ensures { result ≡ cell_of report_rows i }
-{
-    match i {
-        0 => Cell::Here(EXEC_ID, columns::EXEC_ID),
-        1 => Cell::Here(ORDER_ID, columns::ORDER_ID),
-        2 => Cell::Here(TRANSACTION, columns::TRANSACTION),
-        3 => Cell::Here(SYMBOL, columns::SYMBOL),
-        4 => Cell::Here(SIDE, columns::SIDE),
-        5 => Cell::Here(ORDER_QTY, columns::ORDER_QTY),
-        6 => Cell::Here(LAST_SHARES, columns::LAST_SHARES),
-        7 => Cell::Here(LAST_PRICE, columns::LAST_PRICE),
-        8 => Cell::Here(CUM_QTY, columns::CUM_QTY),
-        9 => Cell::Here(LEAVES_QTY, columns::LEAVES_QTY),
-        10 => Cell::Here(EXEC_TYPE, columns::EXEC_TYPE),
-        11 => Cell::Here(STATUS, columns::STATUS),
-        12 => Cell::Here(TIME, columns::TIME),
-        13 => Cell::Here(MULTI_LEG, columns::MULTI_LEG),
-        _ => Cell::End,
-    }
-}
+static REPORT_ROWS: [(Row, usize); 14] = [
+    (EXEC_ID, columns::EXEC_ID),
+    (ORDER_ID, columns::ORDER_ID),
+    (TRANSACTION, columns::TRANSACTION),
+    (SYMBOL, columns::SYMBOL),
+    (SIDE, columns::SIDE),
+    (ORDER_QTY, columns::ORDER_QTY),
+    (LAST_SHARES, columns::LAST_SHARES),
+    (LAST_PRICE, columns::LAST_PRICE),
+    (CUM_QTY, columns::CUM_QTY),
+    (LEAVES_QTY, columns::LEAVES_QTY),
+    (EXEC_TYPE, columns::EXEC_TYPE),
+    (STATUS, columns::STATUS),
+    (TIME, columns::TIME),
+    (MULTI_LEG, columns::MULTI_LEG),
+];
 
-// The row at a place of a correction's.
-fn correction_row(i: usize) -> Cell
-    ensures { result ≡ cell_of correction_rows i }
-{
-    match i {
-        0 => Cell::Here(TRANSACTIONS, columns::TRANSACTION),
-        1 => Cell::Here(CORRECTION_TYPE, columns::CORRECTION_TYPE),
-        2 => Cell::Here(EXEC_ID, columns::EXEC_ID),
-        3 => Cell::Here(TRADE_ID, columns::TRADE_ID),
-        4 => Cell::Here(CORRECTION_NUM, columns::CORRECTION_NUM),
-        5 => Cell::Here(ORDER_ID, columns::ORDER_ID),
-        6 => Cell::Here(CLIENT_ORDER, columns::CLIENT_ORDER),
-        7 => Cell::Here(ORIGINAL_TIME, columns::ORIGINAL_TIME),
-        8 => Cell::Here(TIME, columns::TIME),
-        9 => Cell::Here(SECURITY, columns::SECURITY),
-        10 => Cell::Here(SYMBOL, columns::SYMBOL),
-        11 => Cell::Here(SIDE, columns::SIDE),
-        12 => Cell::Here(LAST_PRICE, columns::LAST_PRICE),
-        13 => Cell::Here(LAST_SHARES, columns::LAST_SHARES),
-        _ => Cell::End,
-    }
-}
+static CORRECTION_ROWS: [(Row, usize); 14] = [
+    (TRANSACTIONS, columns::TRANSACTION),
+    (CORRECTION_TYPE, columns::CORRECTION_TYPE),
+    (EXEC_ID, columns::EXEC_ID),
+    (TRADE_ID, columns::TRADE_ID),
+    (CORRECTION_NUM, columns::CORRECTION_NUM),
+    (ORDER_ID, columns::ORDER_ID),
+    (CLIENT_ORDER, columns::CLIENT_ORDER),
+    (ORIGINAL_TIME, columns::ORIGINAL_TIME),
+    (TIME, columns::TIME),
+    (SECURITY, columns::SECURITY),
+    (SYMBOL, columns::SYMBOL),
+    (SIDE, columns::SIDE),
+    (LAST_PRICE, columns::LAST_PRICE),
+    (LAST_SHARES, columns::LAST_SHARES),
+];
 
-// The same of the session's types that have rows of their own.
-fn logon_row(i: usize) -> Cell
-    ensures { result ≡ cell_of (rows_of kind.Logon) i }
-{
-    match i {
-        0 => Cell::Here(ENCRYPTION, columns::ENCRYPTION),
-        1 => Cell::Here(INTERVAL, columns::INTERVAL),
-        2 => Cell::Here(RESET_NUMBERS, columns::RESET_NUMBERS),
-        _ => Cell::End,
-    }
-}
+static LOGON_ROWS: [(Row, usize); 3] = [
+    (ENCRYPTION, columns::ENCRYPTION),
+    (INTERVAL, columns::INTERVAL),
+    (RESET_NUMBERS, columns::RESET_NUMBERS),
+];
 
-fn heartbeat_row(i: usize) -> Cell
-    ensures { result ≡ cell_of (rows_of kind.Heartbeat) i }
-{
-    match i {
-        0 => Cell::Here(WORD_HEARD, columns::WORD),
-        _ => Cell::End,
-    }
-}
+static HEARTBEAT_ROWS: [(Row, usize); 1] = [(WORD_HEARD, columns::WORD)];
 
-fn test_row(i: usize) -> Cell
-    ensures { result ≡ cell_of (rows_of kind.Test) i }
-{
-    match i {
-        0 => Cell::Here(WORD_ASKED, columns::WORD),
-        _ => Cell::End,
-    }
-}
+static TEST_ROWS: [(Row, usize); 1] = [(WORD_ASKED, columns::WORD)];
 
-fn resend_row(i: usize) -> Cell
-    ensures { result ≡ cell_of (rows_of kind.Resend) i }
-{
-    match i {
-        0 => Cell::Here(FROM, columns::FROM),
-        1 => Cell::Here(UP_TO, columns::UP_TO),
-        _ => Cell::End,
-    }
-}
+static RESEND_ROWS: [(Row, usize); 2] = [(FROM, columns::FROM), (UP_TO, columns::UP_TO)];
 
-fn reset_row(i: usize) -> Cell
-    ensures { result ≡ cell_of (rows_of kind.Reset) i }
-{
-    match i {
-        0 => Cell::Here(FILLING, columns::FILLING),
-        1 => Cell::Here(TO, columns::TO),
-        _ => Cell::End,
-    }
-}
+static RESET_ROWS: [(Row, usize); 2] = [(FILLING, columns::FILLING), (TO, columns::TO)];
 
-// The row at a place of a type's own rows.
-fn own_row(kind: Kind, i: usize) -> Cell
-    ensures { result ≡ cell_of (rows_of kind) i }
+// The rows of a type after the header's, each with its tag's column.
+pub(crate) fn rows_of(kind: Kind) -> &'static [(Row, usize)]
+    ensures { result.now ≡ map here_of (rows_of kind) }
 {
     match kind {
-        Kind::Logon => logon_row(i),
-        Kind::Heartbeat => heartbeat_row(i),
-        Kind::Test => test_row(i),
-        Kind::Resend => resend_row(i),
-        Kind::Reset => reset_row(i),
-        Kind::Logout => Cell::End,
-        Kind::Report => report_row(i),
-        Kind::Correction => correction_row(i),
-        Kind::Other => Cell::End,
-        Kind::Unlisted => Cell::End,
+        Kind::Logon => &LOGON_ROWS,
+        Kind::Heartbeat => &HEARTBEAT_ROWS,
+        Kind::Test => &TEST_ROWS,
+        Kind::Resend => &RESEND_ROWS,
+        Kind::Reset => &RESET_ROWS,
+        Kind::Report => &REPORT_ROWS,
+        Kind::Correction => &CORRECTION_ROWS,
+        Kind::Logout | Kind::Other | Kind::Unlisted => &[],
     }
-}
-
-// The row at a place of a type's table: the header's rows, then its own.
-pub(crate) fn row_at(setup: Setup, kind: Kind, i: usize) -> Cell
-    ensures { result ≡ cell_of (table_of setup kind) i }
-{
-    if i < HEADER_ROWS {
-        return header_row(i);
-    }
-    own_row(kind, i - HEADER_ROWS)
 }
 
 // The kind of a message, by its type's bytes.

@@ -18,16 +18,12 @@ fn id(s: &[u8]) -> Id {
     Id { bytes, len: 0 }
 }
 
-fn barred(b: u8) -> u8 {
-    if b == BAR { b'|' } else { b }
-}
-
 // Turns each byte 1 into `|`.
 fn bars(s: &mut [u8]) {
-    let mut i = 0;
-    while i < s.len() {
-        s[i] = barred(s[i]);
-        i += 1;
+    for b in s.iter_mut() {
+        if *b == BAR {
+            *b = b'|';
+        }
     }
 }
 

@@ -1,46 +1,38 @@
 -- `octet::put_padded` meets its contract: the length byte, the text and the zeros are the field.
 use borrow.Author.Rules.{rules}
-use mathlib.Core.Path.{ap, ◌∙◌}
+use borrow.Author.Tests.{leb-false, leb-true}
+use mathlib.Core.Path.{◌≡◌, sym, ap, ◌∙◌}
 use mathlib.Core.List.{List}
 use Prim.Native.Nat.{ℕ, ◌+◌, ◌-◌}
 use native.Mathlib.Omega.{arith}
-use lib.ListN.{length, length-set, replicate}
+use lib.ListN.{length, set, replicate}
 use Rattle.octet.specs.Splice.{splice}
-use Rattle.octet.proofs.Padded.{unfit-width, unfit-byte, fits_width_lem, put-unfit, put-no-room, put_whole}
+use Rattle.octet.proofs.Padded.{unfit-width, fits_width_lem, put-unfit, put-no-room, put_whole}
 use Rattle.octet.proofs.put_padded.Goals as goal
+use Rattle.octet.proofs.put_padded.Goals.{then-width-t-via-then-width-t, then-width-t-via-else-width-t+then-not-has_room}
 
 pub returns-then-width-t : goal.returns-then-width-t
 returns-then-width-t c =
     let a = c.args in
-    put-unfit a.dst.now a.at a.width a.t.now (unfit-width a.width a.t.now c.if-width-t.true)
-
-pub returns-then-t-gt255 : goal.returns-then-t-gt255
-returns-then-t-gt255 c =
-    let a = c.args in
-    put-unfit a.dst.now a.at a.width a.t.now (unfit-byte a.width a.t.now c.if-t-gt255.true)
-
-pub returns-then-dst-at : goal.returns-then-dst-at
-returns-then-dst-at c =
-    let a = c.args in
-    put-no-room a.dst.now a.at a.width a.t.now (fits_width_lem a.width a.t.now (search rules) (search rules)) (omega arith)
-
-pub returns-then-dst-at-2 : goal.returns-then-dst-at-2
-returns-then-dst-at-2 c =
-    let a = c.args in
-    put-no-room a.dst.now a.at a.width a.t.now (fits_width_lem a.width a.t.now (search rules) (search rules)) (omega arith)
-
-pub shape_of-dst : goal.shape_of-dst
-shape_of-dst c =
-    let a = c.args in
-    c.put_zeros.auto.dst ∙ c.copy_into.auto.dst ∙ length-set a.dst.now a.at (length a.t.now)
+    let d = a.dst.now in
+    let t = a.t.now in
+    elim c.then-width-t.branch [
+      | then-width-t-via-then-width-t w ↦ put-unfit d a.at a.width t (unfit-width a.width t w.if-width-t.true)
+      | then-width-t-via-else-width-t+then-not-has_room w ↦ put-no-room d a.at a.width t (fits_width_lem a.width t (omega arith) (omega arith))
+          (leb-false (a.at + a.width) (length d) (sym w.has_room.ensures ∙ w.if-not-has_room.true))
+    ]
 
 pub returns : goal.returns
 returns c =
     let a = c.args in
     let d = a.dst.now in
     let t = a.t.now in
-    let w = put_whole d a.at a.width t (fits_width_lem a.width t (omega arith) (omega arith)) (omega arith) in (
+    let len : c.in-Ok.len ≡ length t = search rules in
+    let room = leb-true (a.at + a.width) (length d) (sym c.has_room.ensures ∙ c.if-not-has_room.false) in
+    let w = put_whole d a.at a.width t (fits_width_lem a.width t (omega arith) (omega arith)) room in (
       w.0,
       c.put_zeros.ensures.1
-          ∙ ap (λ (m : List ℕ). splice m (a.at + 1 + length t) (replicate (a.width - 1 - length t) 0)) c.copy_into.ensures.1 ∙ w.1,
+          ∙ ap (λ (m : List ℕ). splice m (a.at + 1 + length t) (replicate (a.width - 1 - length t) 0)) c.copy_into.ensures.1
+          ∙ ap (λ (n : ℕ). splice (splice (set d a.at n) (a.at + 1) t) (a.at + 1 + length t) (replicate (a.width - 1 - length t) 0)) len
+          ∙ w.1,
     )

@@ -1,44 +1,23 @@
--- `octet::put_zeros` meets its contract: i zeros stand written.
-use borrow.Author.Rules.{rules}
+-- `octet::put_zeros` meets its contract.
+use Rattle.std.proofs.Common.{rules}
 use mathlib.Core.Path.{◌≡◌, sym, ap, ◌∙◌}
-use mathlib.Core.List.{List}
-use Prim.Native.Nat.{ℕ, ◌+◌}
-use native.Mathlib.Omega.{arith}
-use lib.ListN.{length, set, replicate}
-use Rattle.octet.specs.Splice.{splice}
-use Rattle.octet.proofs.Lists.{splice-nil, splice-length}
-use Rattle.octet.proofs.Padded.{zeros-turn, zeros-no-room, zeros-room}
+use Prim.Native.Nat.{ℕ, ◌+◌, ◌-◌}
+use native.Mathlib.Nat.{add-sub_cancel_left}
+use lib.Dec.{leb}
+use lib.ListN.{length, replicate}
+use Rattle.octet.proofs.Lists.{no-room, written}
+use Rattle.octet.proofs.Padded.{zeros-length}
 use Rattle.octet.proofs.put_zeros.Goals as goal
 
-pub returns-then-dst-at : goal.returns-then-dst-at
-returns-then-dst-at c =
+pub returns-then-not-has_room : goal.returns-then-not-has_room
+returns-then-not-has_room c =
     let a = c.args in
-    zeros-no-room a.dst.now a.at a.n (omega arith)
-
-pub returns-then-dst-at-2 : goal.returns-then-dst-at-2
-returns-then-dst-at-2 c =
-    let a = c.args in
-    zeros-no-room a.dst.now a.at a.n (omega arith)
-
-pub loop-i-init : goal.loop-i-init
-loop-i-init c =
-    let a = c.args in
-    (search rules, search rules, sym (splice-nil a.dst.now a.at))
-
-pub loop-i-preserved : goal.loop-i-preserved
-loop-i-preserved c =
-    let a = c.args in
-    let p = a.at + c.loop-i.i in
-    let e = ap (λ (d : List ℕ). set d p 0) c.loop-i.invariant.2 ∙ zeros-turn a.dst.now a.at c.loop-i.i (omega arith) in
-    (search rules, ap length e ∙ splice-length a.dst.now a.at (replicate (c.loop-i.i + 1) 0), e)
-
-pub shape_of-dst : goal.shape_of-dst
-shape_of-dst c = c.loop-i.invariant.1
+    no-room a.dst.now a.at (replicate a.n 0) (ap (λ (k : ℕ). leb (a.at + k) (length a.dst.now)) (zeros-length a.n) ∙ sym c.has_room.ensures ∙ c.if-not-has_room.true)
 
 pub returns : goal.returns
 returns c =
     let a = c.args in
-    let e : c.loop-i.i ≡ a.n = omega arith in (
-      zeros-room a.dst.now a.at a.n (omega arith),
-      c.loop-i.invariant.2 ∙ ap (λ (n : ℕ). splice a.dst.now a.at (replicate n 0)) e,
-    )
+    let e : a.at + a.n - a.at ≡ length (replicate {A = ℕ} a.n 0) = add-sub_cancel_left a.at a.n ∙ sym (zeros-length a.n) in
+    let z : c.fill.new.self ≡ replicate a.n 0 = search rules in
+    written a.dst.now a.at (a.at + a.n - a.at) (replicate a.n 0) e z
+    (ap (λ (k : ℕ). leb (a.at + k) (length a.dst.now)) (zeros-length a.n) ∙ sym c.has_room.ensures ∙ c.if-not-has_room.false)

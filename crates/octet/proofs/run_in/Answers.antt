@@ -1,26 +1,27 @@
--- `octet::run_in` meets its contract: i bytes are passed, and what is left holds the rest.
-use borrow.Author.Rules.{rules}
+-- `octet::run_in` meets its contract.
+use Rattle.std.proofs.Common.{rules}
+use borrow.Author.Tests.{tests}
+use mathlib.Core.Path.{◌≡◌, sym, ap, ◌∙◌}
+use Prim.Native.Nat.{ℕ}
 use native.Mathlib.Omega.{arith}
-use Rattle.octet.proofs.Lists.{run-go, run-stop, run-done, is-between, is_below, is-above}
+use lib.ListN.{length}
+use mathlib.Core.Bool.{not}
+use Rattle.octet.specs.Bytes.{between}
+use Rattle.std.specs.Option.{unwrap_or}
+use Rattle.std.specs.List.{position}
+use Rattle.std.proofs.lemmas.Iterator.{YieldsList-from_slice}
+use Rattle.std.proofs.lemmas.Iterator.Search.{position_from_yields_List}
+use Rattle.octet.proofs.Lists.{run_position, run-most, counted}
 use Rattle.octet.proofs.run_in.Goals as goal
-
-pub returns-then-b-low : goal.returns-then-b-low
-returns-then-b-low c =
-    let a = c.args in
-    omega (arith, run-stop a.low a.high a.s.now c.loop-i.i (search rules) (is_below a.low a.high _ c.if-b-low.true))
-
-pub returns-then-high-b : goal.returns-then-high-b
-returns-then-high-b c =
-    let a = c.args in
-    omega (arith, run-stop a.low a.high a.s.now c.loop-i.i (search rules) (is-above a.low a.high _ c.if-high-b.true))
-
-pub loop-i-preserved : goal.loop-i-preserved
-loop-i-preserved c =
-    let a = c.args in
-    let e = is-between a.low a.high _ c.if-b-low.false c.if-high-b.false in
-    omega (arith, run-go a.low a.high a.s.now c.loop-i.i (search rules) e)
 
 pub returns : goal.returns
 returns c =
     let a = c.args in
-    omega (arith, run-done a.low a.high a.s.now c.loop-i.i (search rules))
+    let s = a.s.now in
+    let e : c.position.result ≡ position (λ (b : ℕ). not (between a.low a.high b)) s =
+    position_from_yields_List (λ (b : ℕ). not (between a.low a.high b)) _ _ c.position.result c.position.ensures.ran (YieldsList-from_slice s cc) (λ x b q k. search (rules, tests)) in
+    let u = run_position a.low a.high s in
+    c.unwrap_or.ensures
+    ∙ ap (λ o. unwrap_or o (length s)) e
+    ∙ counted _ (length s) (omega (arith, u, run-most a.low a.high s))
+    ∙ sym u

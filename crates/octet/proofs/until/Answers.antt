@@ -1,13 +1,26 @@
--- `octet::until` meets its contract: i bytes are passed, and what is left holds the rest.
+-- `octet::until` meets its contract.
+use Rattle.std.proofs.Common.{rules}
+use borrow.Author.Tests.{tests}
+use mathlib.Core.Path.{◌≡◌, sym, ap, ◌∙◌}
+use Prim.Native.Nat.{ℕ}
 use native.Mathlib.Omega.{arith}
-use Rattle.octet.proofs.Lists.{until-go, until_stop, until-done}
+use lib.ListN.{length}
+use lib.Dec.{eqb}
+use Rattle.std.specs.Option.{unwrap_or}
+use Rattle.std.specs.List.{position}
+use Rattle.std.proofs.lemmas.Iterator.{YieldsList-from_slice}
+use Rattle.std.proofs.lemmas.Iterator.Search.{position_from_yields_List}
+use Rattle.octet.proofs.Lists.{until_position, until-most, counted}
 use Rattle.octet.proofs.until.Goals as goal
 
-pub returns-then-s-i : goal.returns-then-s-i
-returns-then-s-i c = omega (arith, until_stop c.args.b c.args.s.now c.loop-i.i (omega arith) c.if-s-i.true)
-
-pub loop-i-preserved : goal.loop-i-preserved
-loop-i-preserved c = omega (arith, until-go c.args.b c.args.s.now c.loop-i.i (omega arith) c.if-s-i.false)
-
 pub returns : goal.returns
-returns c = omega (arith, until-done c.args.b c.args.s.now c.loop-i.i (omega arith))
+returns c =
+    let a = c.args in
+    let s = a.s.now in
+    let e : c.position.result ≡ position (λ (x : ℕ). eqb x a.b) s =
+    position_from_yields_List (λ (x : ℕ). eqb x a.b) _ _ c.position.result c.position.ensures.ran (YieldsList-from_slice s cc) (λ x b q k. search (rules, tests)) in
+    let u = until_position a.b s in
+    c.unwrap_or.ensures
+    ∙ ap (λ o. unwrap_or o (length s)) e
+    ∙ counted _ (length s) (omega (arith, u, until-most a.b s))
+    ∙ sym u

@@ -6,7 +6,8 @@ use borrow.Author.Tests.{lt-ltb, le-ltb, le-leb, lt-leb}
 use Rattle.book.specs.Memory.{slots_in}
 use Rattle.note.specs.Notes.{Acks}
 use Rattle.restart.specs.Steps.{kept_in}
-use Rattle.restart.proofs.Stepping.{acks-by, step-no, step-yes, last-is, on-acks, taken_as, mem-stays, mem-acks}
+use Rattle.restart.proofs.Stepping.{acks-by, acks-no, step-yes, last-is, on-acks, mem-acks}
+use Rattle.restart.proofs.step_acks.Goals.{then-n-m-via-then-n-m, then-n-m-via-else-n-m+then-m-n}
 use Rattle.restart.proofs.step_acks.Goals as goal
 
 pub returns-then-n-m : goal.returns-then-n-m
@@ -14,16 +15,11 @@ returns-then-n-m c =
     let a = c.args in
     let m = a.mem.now in
     let q = kept_in a.m m in
-    let t = acks-by q a.n (le-ltb a.m.acked a.n (omega arith)) refl in
-    (step-no q (Acks a.n) t, mem-stays m q a.n t)
-
-pub returns-then-m-n : goal.returns-then-m-n
-returns-then-m-n c =
-    let a = c.args in
-    let m = a.mem.now in
-    let q = kept_in a.m m in
-    let t = acks-by q a.n (lt-ltb a.m.acked a.n (omega arith)) (lt-leb a.n (length (slots_in a.m.last m)) (omega (arith, last-is a.m m))) in
-    (step-no q (Acks a.n) t, mem-stays m q a.n t)
+    elim c.then-n-m.branch [
+      | then-n-m-via-then-n-m w ↦ acks-no m q a.n (acks-by q a.n (le-ltb a.m.acked a.n w.if-n-m.true) refl)
+      | then-n-m-via-else-n-m+then-m-n w ↦
+          acks-no m q a.n (acks-by q a.n (lt-ltb a.m.acked a.n (omega arith)) (lt-leb a.n (length (slots_in a.m.last m)) (omega (arith, last-is a.m m))))
+    ]
 
 pub returns : goal.returns
 returns c =
@@ -31,6 +27,5 @@ returns c =
     let m = a.mem.now in
     let q = kept_in a.m m in
     let t = acks-by q a.n (lt-ltb a.m.acked a.n (omega arith)) (le-leb a.n (length (slots_in a.m.last m)) (omega (arith, last-is a.m m))) in
-    let off = taken_as m a.m a.n _ _ _ _ _ _
-    c.wide.ensures.0 c.wide-2.ensures.0 c.wide-3.ensures.0 c.wide-4.ensures.0 c.take_off-day.ensures in
+    let off = c.take_off-day.ensures in
     (step-yes q (Acks a.n) _ t (on-acks a.m m a.n _ off.0), mem-acks m _ q a.n t off.1)

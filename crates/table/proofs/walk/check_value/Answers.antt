@@ -1,12 +1,9 @@
--- `table::walk::check_value` meets its contract: in each arm the form is known, and its reader answers.
+-- `table::walk::check_value` meets its contract: each arm knows its form.
 use mathlib.Core.Path.{ap, ◌∙◌}
 use mathlib.Core.Option.{none}
 use Rattle.value.specs.Readers.{checked, time_checked, code_checked}
 use Rattle.table.specs.Steps.{bad_form, fits}
 use Rattle.table.proofs.walk.check_value.Goals as goal
-
-pub returns-in-Number : goal.returns-in-Number
-returns-in-Number c = rw c.in-Number.is c.check_number.ensures
 
 pub returns-in-Price : goal.returns-in-Price
 unfolding bad_form fits
@@ -20,12 +17,9 @@ pub returns-in-Text : goal.returns-in-Text
 unfolding bad_form fits
 returns-in-Text c = rw c.in-Text.is (c.fitted.ensures ∙ ap (checked none) c.is_in_range.ensures)
 
-pub returns-in-Graph : goal.returns-in-Graph
-returns-in-Graph c = rw c.in-Graph.is c.check_graph.ensures
-
 pub returns-in-Code : goal.returns-in-Code
 unfolding bad_form fits code_checked
-returns-in-Code c = rw c.in-Code.is c.check_code.ensures
+returns-in-Code c = rw (c.in-Code.is, ← c.codes_of.ensures) c.read_code.ensures
 
 pub returns-in-Security : goal.returns-in-Security
 unfolding bad_form fits

@@ -1,8 +1,0 @@
--- `octet::high_four` meets its contract.
-use native.Mathlib.Omega.{arith}
-use Rattle.octet.proofs.Places.{high-four}
-use borrow.Author.Rules.{rules}
-use Rattle.octet.proofs.high_four.Goals as goal
-
-pub returns : goal.returns
-returns c = let a = c.args in (omega (arith, high-four a.s.now a.i (search rules)), search rules)
