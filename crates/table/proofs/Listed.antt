@@ -9,8 +9,8 @@ use lib.Dec.{eqb, leb}
 use Rattle.octet.specs.Maybe.{or_else}
 use Rattle.octet.proofs.Cases.{and_both}
 use Rattle.field.specs.Index.{listed, position, column_of, is_listed}
+use Rattle.field.specs.Pieces.{Scan}
 use Rattle.field.specs.Look.{Look, at_listed}
-use Rattle.field.specs.declared.Scan.{Scan}
 use Rattle.field.proofs.Looks.{text-listed, count-listed}
 use Rattle.value.specs.Value.{number_or}
 use Rattle.answer.specs.declared.Setup.{Setup}

@@ -19,10 +19,9 @@ use Rattle.value.specs.declared.Flaw.{Flaw}
 use Rattle.value.specs.declared.Flaw.TheVariants as flaw
 use Rattle.value.proofs.Forms.{checked-bad}
 use Rattle.value.proofs.Place.{number-places, price-places, time-places, graph-places}
-use Rattle.field.specs.Pieces.{Pieces, text_at, count_of, scan_of}
+use Rattle.field.specs.Pieces.{Pieces, text_at, count_of, Scan, scan_of}
 use Rattle.field.specs.Look.{look_of}
-use Rattle.field.specs.declared.Scan.{Scan}
-use Rattle.field.specs.declared.Scan.TheVariants as scan
+use Rattle.field.specs.declared.Unsound.TheVariants as unsound
 use Rattle.answer.specs.Numbers.{inside}
 use Rattle.answer.specs.declared.Setup.{Setup}
 use Rattle.answer.specs.declared.Phase.{Phase}
@@ -75,9 +74,9 @@ sited-as P Q g none h = tt
 sited-as P Q g (some f) h = ⊎_elim (λ x. inl (x.0, g f x.1)) (λ x. inr x) h
 
 scan-sited : (P : Fault → Type 0) (c : Scan) → SitedIf P (scan_fault c)
-scan-sited P scan.Sound = tt
-scan-sited P scan.Malformed = inr (λ e. omega arith, refl)
-scan-sited P (scan.Empty tag) = inr (λ e. omega arith, refl)
+scan-sited P (Ok a) = tt
+scan-sited P (Err unsound.Malformed) = inr (λ e. omega arith, refl)
+scan-sited P (Err (unsound.Empty tag)) = inr (λ e. omega arith, refl)
 
 kind-sited : (P : Fault → Type 0) (phase : Phase) (k : Kind) → SitedIf P (kind_fault phase k)
 kind-sited P phase kind.Logon = of-cond (SitedIf P) (inside phase) (λ t. inr (λ e. omega arith, refl)) (λ t. tt)

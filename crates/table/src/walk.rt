@@ -5,7 +5,7 @@ ghost use Rattle.value.specs.Value.{bad_price};
 ghost use Rattle.value.specs.Readers.{checked};
 ghost use Rattle.answer.specs.Numbers.{nine_digits};
 ghost use Rattle.field.specs.Index.{column_of};
-ghost use Rattle.field.specs.Look.{look_in};
+ghost use Rattle.field.specs.Look.{seen_by};
 ghost use Rattle.table.specs.declared.Form.TheVariants as form;
 ghost use Rattle.table.specs.Rows.{codes_of, table_of, tag_of, here_of, rows_in};
 ghost use Rattle.table.specs.Steps.{number_of, is_security, in_range, value_check, check_fault, tag_fault, applies, asked_by, row_fault, walk, found};
@@ -13,25 +13,25 @@ ghost use Rattle.table.specs.Steps.{number_of, is_security, in_range, value_chec
 use super::rows::{HEADER_ROWS, rows_of};
 use super::{Asked, Codes, Form, Given, Range, Row, Where};
 use answer::{Fault, Kind, NINE_DIGITS, Setup, reasons};
-use field::{Index, count_in, value_at, value_in};
+use field::Look;
 use value::Flaw;
 
 // The number of a tag.
-pub fn number_at(body: &[u8], index: &Index, tag: u32) -> u32
-    ensures value { result ≡ number_of (look_in body.now index.now) tag }
+pub fn number_at(look: Look, tag: u32) -> u32
+    ensures value { result ≡ number_of (seen_by look.entry) tag }
     ensures upper_bound { result ≤ nine_digits }
 {
-    value::number_of(value_at(body, index, tag))
+    value::number_of(look.value(tag))
 }
 
 // Whether a number, or a text's length, is in range.
-fn is_in_range(body: &[u8], index: &Index, given: Given, range: Range, n: usize) -> bool
-    ensures { result ≡ in_range given (look_in body.now index.now) range n }
+fn is_in_range(look: Look, given: Given, range: Range, n: usize) -> bool
+    ensures { result ≡ in_range given (seen_by look.entry) range n }
 {
     match range {
         Range::Of(low, high) => low as usize <= n && n <= high as usize,
         Range::Written => 1 <= n && n < given.o as usize,
-        Range::NoneOrFrom(tag) => n == 0 || number_at(body, index, tag) as usize <= n,
+        Range::NoneOrFrom(tag) => n == 0 || number_at(look, tag) as usize <= n,
         Range::Any => true,
     }
 }
@@ -44,25 +44,19 @@ fn fitted(fits: bool) -> Result<(), Flaw>
 }
 
 // "Numbers have digits only, 1 to 9", and the range.
-fn check_number(
-    body: &[u8],
-    index: &Index,
-    given: Given,
-    range: Range,
-    v: &[u8],
-) -> Result<(), Flaw>
-    ensures { result ≡ value_check given (look_in body.now index.now) (form.Number range) v.now }
+fn check_number(look: Look, given: Given, range: Range, v: &[u8]) -> Result<(), Flaw>
+    ensures { result ≡ value_check given (seen_by look.entry) (form.Number range) v.now }
 {
     let n = value::read_number(v, 0, NINE_DIGITS)?;
-    fitted(is_in_range(body, index, given, range, n as usize))
+    fitted(is_in_range(look, given, range, n as usize))
 }
 
 // "all three of bytes 33 to 126", and the length.
-fn check_graph(body: &[u8], index: &Index, given: Given, range: Range, v: &[u8]) -> Result<(), Flaw>
-    ensures { result ≡ value_check given (look_in body.now index.now) (form.Graph range) v.now }
+fn check_graph(look: Look, given: Given, range: Range, v: &[u8]) -> Result<(), Flaw>
+    ensures { result ≡ value_check given (seen_by look.entry) (form.Graph range) v.now }
 {
     value::read_graph(v, 0, v.len())?;
-    fitted(is_in_range(body, index, given, range, v.len()))
+    fitted(is_in_range(look, given, range, v.len()))
 }
 
 // A price has no range.
@@ -97,15 +91,15 @@ fn is_security(v: &[u8]) -> bool
 }
 
 // Whether a value is of a form and in its range.
-fn check_value(body: &[u8], index: &Index, given: Given, form: Form, v: &[u8]) -> Result<(), Flaw>
-    ensures { result ≡ value_check given (look_in body.now index.now) form v.now }
+fn check_value(look: Look, given: Given, form: Form, v: &[u8]) -> Result<(), Flaw>
+    ensures { result ≡ value_check given (seen_by look.entry) form v.now }
 {
     match form {
-        Form::Number(range) => check_number(body, index, given, range, v),
+        Form::Number(range) => check_number(look, given, range, v),
         Form::Price => check_price(v),
         Form::Time => value::read_time(v),
-        Form::Text(range) => fitted(is_in_range(body, index, given, range, v.len())),
-        Form::Graph(range) => check_graph(body, index, given, range, v),
+        Form::Text(range) => fitted(is_in_range(look, given, range, v.len())),
+        Form::Graph(range) => check_graph(look, given, range, v),
         Form::Code(codes) => value::read_code(v, codes_of(codes)),
         Form::Security => fitted(is_security(v)),
     }
@@ -136,8 +130,7 @@ fn flaw_fault(flaw: Flaw, tag: u32) -> Fault
 
 // "each tag: missing 1, twice 5, bad form 6, out of range 5". The tag is given with its column.
 fn tag_fault(
-    body: &[u8],
-    index: &Index,
+    look: Look,
     given: Given,
     tag: u32,
     column: usize,
@@ -145,14 +138,14 @@ fn tag_fault(
     form: Form,
 ) -> Result<(), Fault>
     requires { column ≡ column_of tag }
-    ensures { found result ≡ tag_fault given (look_in body.now index.now) tag needed form }
+    ensures { found result ≡ tag_fault given (seen_by look.entry) tag needed form }
 {
-    match count_in(index, column) {
+    match look.count_in(column) {
         0 if needed => Err(Fault::of(reasons::MISSING, tag)),
         0 => Ok(()),
-        1 => check_value(body, index, given, form, value_in(body, index, column)).map_err(
-            |flaw| flaw_fault(flaw, tag),
-        ),
+        1 => check_value(look, given, form, look.value_in(column)).map_err(|flaw| flaw_fault(
+            flaw, tag,
+        )),
         _ => Err(Fault::of(reasons::WRONG_VALUE, tag)),
     }
 }
@@ -177,46 +170,32 @@ fn asked_by(row: Row) -> Asked
 }
 
 // The fault of a row, given with its tag's column. One that does not apply is passed over.
-fn row_fault(body: &[u8], index: &Index, given: Given, row: Row, column: usize) -> Result<(), Fault>
+fn row_fault(look: Look, given: Given, row: Row, column: usize) -> Result<(), Fault>
     requires { column ≡ column_of (tag_of row) }
-    ensures { found result ≡ row_fault given (look_in body.now index.now) row }
+    ensures { found result ≡ row_fault given (seen_by look.entry) row }
 {
     let asked = asked_by(row);
     if !applies(asked.place, given) {
         return Ok(());
     }
-    tag_fault(
-        body,
-        index,
-        given,
-        asked.tag,
-        column,
-        asked.needed,
-        asked.form,
-    )
+    tag_fault(look, given, asked.tag, column, asked.needed, asked.form)
 }
 
 // The rows of a list, one after another.
-fn walk_rows(given: Given, rows: &[(Row, usize)], body: &[u8], index: &Index) -> Result<(), Fault>
+fn walk_rows(given: Given, rows: &[(Row, usize)], look: Look) -> Result<(), Fault>
     requires { rows.now ≡ map here_of (rows_in rows.now) }
-    ensures { found result ≡ walk given (look_in body.now index.now) (rows_in rows.now) }
+    ensures { found result ≡ walk given (seen_by look.entry) (rows_in rows.now) }
 {
     for (row, column) in rows {
-        row_fault(body, index, given, *row, *column)?;
+        row_fault(look, given, *row, *column)?;
     }
     Ok(())
 }
 
 // "The table of its type, top down": the header's rows, then the type's own.
-pub(crate) fn walk(
-    setup: Setup,
-    given: Given,
-    kind: Kind,
-    body: &[u8],
-    index: &Index,
-) -> Result<(), Fault>
-    ensures { found result ≡ walk given (look_in body.now index.now) (table_of setup kind) }
+pub(crate) fn walk(setup: Setup, given: Given, kind: Kind, look: Look) -> Result<(), Fault>
+    ensures { found result ≡ walk given (seen_by look.entry) (table_of setup kind) }
 {
-    walk_rows(given, &HEADER_ROWS, body, index)?;
-    walk_rows(given, rows_of(kind), body, index)
+    walk_rows(given, &HEADER_ROWS, look)?;
+    walk_rows(given, rows_of(kind), look)
 }

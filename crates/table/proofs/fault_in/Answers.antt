@@ -1,22 +1,27 @@
 -- `table::fault_in` meets its contract, step by step.
+use mathlib.Core.Path.{◌≡◌, refl}
+use borrow.Author.Rules.{rules}
 use Rattle.std.proofs.lemmas.Result.{err_from_is_err_and}
-use Rattle.table.specs.Steps.{first_fault}
+use Rattle.table.specs.Steps.{scan_fault, first_fault, found}
+use Rattle.table.proofs.Walks.{passed}
 use Rattle.table.proofs.fault_in.Goals as goal
 
-pub returns-in-Malformed : goal.returns-in-Malformed
+pub returns-in_err-map_err : goal.returns-in_err-map_err
 unfolding first_fault
-returns-in-Malformed c = rw (c.in-Malformed.is, c.of.ensures)
-
-pub returns-in-Empty : goal.returns-in-Empty
-unfolding first_fault
-returns-in-Empty c = rw (c.in-Empty.is, c.of-in-Empty.ensures)
-
-pub returns-in_err-kind_fault-in-Sound : goal.returns-in_err-kind_fault-in-Sound
-unfolding first_fault
-returns-in_err-kind_fault-in-Sound c =
+returns-in_err-map_err c =
     let p = err_from_is_err_and c.from_residual.result c.from_residual.ensures.1 in
-    rw (p.1, p.2, c.in-Sound.is, ← c.in_err-kind_fault-in-Sound.ensures)
+    let s : found c.map_err.result ≡ scan_fault c.args.scan = passed scan_fault refl _ _ c.map_err.ensures.cases (λ e d x. search rules) in
+    rw (p.1, p.2, ← s, c.in_err-map_err.was)
 
-pub returns-in_ok-kind_fault-in-Sound : goal.returns-in_ok-kind_fault-in-Sound
+pub returns-in_err-kind_fault : goal.returns-in_err-kind_fault
 unfolding first_fault
-returns-in_ok-kind_fault-in-Sound c = rw (c.in-Sound.is, ← c.in_ok-kind_fault-in-Sound.ensures) c.walk.ensures
+returns-in_err-kind_fault c =
+    let p = err_from_is_err_and c.from_residual-in_err-kind_fault.result c.from_residual-in_err-kind_fault.ensures.1 in
+    let s : found c.map_err.result ≡ scan_fault c.args.scan = passed scan_fault refl _ _ c.map_err.ensures.cases (λ e d x. search rules) in
+    rw (p.1, p.2, ← s, c.in_ok-map_err.was, ← c.in_err-kind_fault.ensures)
+
+pub returns : goal.returns
+unfolding first_fault
+returns c =
+    let s : found c.map_err.result ≡ scan_fault c.args.scan = passed scan_fault refl _ _ c.map_err.ensures.cases (λ e d x. search rules) in
+    rw (← s, c.in_ok-map_err.was, ← c.in_ok-kind_fault.ensures) c.walk.ensures
