@@ -1,6 +1,3 @@
-use mathlib.Core.Path.{ap₂, ◌∙◌}
-use Prim.Native.Nat.{ℕ}
-use Rattle.book.specs.Memory.{entered}
 use Rattle.receiver.proofs.Framing.{kept-entered}
 use Rattle.receiver.proofs.messages.keep.Goals as goal
 
@@ -10,4 +7,4 @@ returns c =
     let m = a.book.now in
     let s = a.slot.now in
     kept-entered a.st m a.len s a.outcome a.next a.row a.note.now c.requires.0 c.book_len.ensures.book_len c.requires.1 c.put_books-noted.ensures
-    (c.enter.ensures ∙ ap₂ (λ (k n : ℕ). entered m k n a.row s) c.wide.ensures c.wide-2.ensures)
+    c.enter.ensures
