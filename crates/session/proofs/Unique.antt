@@ -15,10 +15,6 @@ use Rattle.session.specs.contracts.Session.fresh as fresh
 use Rattle.session.specs.contracts.Session.is_off as is-off
 use Rattle.session.specs.contracts.Session.is_on as is-on
 use Rattle.session.specs.contracts.Session.may_call as may-call
-use Rattle.session.specs.contracts.Session.open as opening
-use Rattle.session.specs.contracts.Session.heartbeat as heartbeat
-use Rattle.session.specs.contracts.Session.test_request as test-request
-use Rattle.session.specs.contracts.Session.close as close
 use Rattle.session.specs.contracts.Session.own as own
 use Rattle.session.specs.contracts.Session.line_lost as line-lost
 use Rattle.session.specs.contracts.Session.rejected as rejected
@@ -71,18 +67,6 @@ is-on-once M 𝓤 𝓛 mem run κs a g = (_, λ r e. alone 𝓤)
 
 pub may-call-once : Once may-call.ended (λ M 𝓤. may-call.clauses) (λ κs r e. r)
 may-call-once M 𝓤 𝓛 mem run κs a g = (_, λ r e. alone 𝓤)
-
-pub open-once : Once opening.ended (λ M 𝓤. opening.clauses) (λ κs r e. r)
-open-once M 𝓤 𝓛 mem run κs a g = (_, λ r e. alone 𝓤)
-
-pub heartbeat-once : Once heartbeat.ended (λ M 𝓤. heartbeat.clauses) (λ κs r e. r)
-heartbeat-once M 𝓤 𝓛 mem run κs a g = (_, λ r e. alone 𝓤)
-
-pub test-request-once : Once test-request.ended (λ M 𝓤. test-request.clauses) (λ κs r e. r)
-test-request-once M 𝓤 𝓛 mem run κs a g = (_, λ r e. alone 𝓤)
-
-pub close-once : Once close.ended (λ M 𝓤. close.clauses) (λ κs r e. r)
-close-once M 𝓤 𝓛 mem run κs a g = (_, λ r e. alone 𝓤)
 
 pub own-once : Once own.ended (λ M 𝓤. own.clauses) (λ κs r e. r)
 own-once M 𝓤 𝓛 mem run κs a g = (_, λ r e. alone 𝓤)
