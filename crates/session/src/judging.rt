@@ -194,7 +194,7 @@ impl Session {
     fn is_due(self, m: Findings) -> bool
         ensures { result ≡ due self (facts m) }
     {
-        self.asked != self.e || m.again || m.kind == Kind::Heartbeat
+        self.asked != Some(self.e) || m.again || m.kind == Kind::Heartbeat
     }
 }
 

@@ -12,13 +12,13 @@ pub use reading::findings_of;
 use table::Judgement;
 use wire::Reply;
 
-// The phase, the number expected, the next to send, and the E that a Resend Request was last written for (0 for none).
+// The phase, the number expected, the next to send, and the E that a Resend Request was last written for.
 #[derive(Clone, Copy)]
 pub struct Session {
     pub phase: Phase,
     pub e: u32,
     pub o: u32,
-    pub asked: u32,
+    pub asked: Option<u32>,
 }
 
 // Our own calls: open, heartbeat, test request, close.

@@ -38,7 +38,7 @@ impl Session {
             phase: Phase::Out,
             e: 1,
             o: 1,
-            asked: 0,
+            asked: None,
         }
     }
 
@@ -66,7 +66,7 @@ impl Session {
         ensures { result ≡ asking self }
     {
         Session {
-            asked: self.e,
+            asked: Some(self.e),
             ..self
         }
     }
