@@ -1,11 +1,8 @@
 -- No second answer satisfies the contract of a public function: proved of the contract itself (octet's Once.antt).
 use mathlib.Core.Path.{◌≡◌, refl, sym, ap, ◌∙◌}
-use mathlib.Core.Option.{none, some}
+use mathlib.Core.Option.{Option, none, some}
 use Prim.Native.Nat.{ℕ}
-use lib.Dec.{eqb}
-use borrow.Author.Tests.{eqb-true}
-use Rattle.octet.specs.Maybe.{unless}
-use Rattle.octet.proofs.Cases.{of-cond, ap-cond}
+use Rattle.std.specs.Prelude.{Some, None, Option as Maybe}
 use Rattle.table.proofs.Unique.{judged, judged-found}
 use Rattle.session.specs.Reading.{Facts, numbered, facts}
 use Rattle.session.specs.declared.Findings.{Findings}
@@ -23,11 +20,19 @@ use Rattle.session.specs.contracts.reading.findings_of as findings-of
 use Rattle.session.specs.contracts.Session.judge as judge
 use Rattle.session.specs.contracts.judging.word_tag as word-tag
 
--- what was read is known by its facts: 0 is no number, and a judgement is known by its fault
+-- what was read is known by its facts: a number, and a judgement by its fault
+read : Option ℕ → Maybe ℕ
+read (some n) = Some n
+read none = None
+
+read-numbered : (n : Maybe ℕ) → read (numbered n) ≡ n
+read-numbered (Some n) = refl
+read-numbered None = refl
+
 abbrev known : Facts → Findings
 known f = record {
   kind = f.kind;
-  seq = unless 0 f.seq;
+  seq = read f.seq;
   ids = judged f.ids;
   fault = judged f.fault;
   again = f.again;
@@ -37,13 +42,10 @@ known f = record {
   to = f.to;
 }
 
-unless-numbered : (n : ℕ) → unless 0 (numbered n) ≡ n
-unless-numbered n = ap-cond (unless 0) (eqb n 0) none (some n) ∙ of-cond (λ (x : ℕ). x ≡ n) (eqb n 0) (λ z. sym (eqb-true n 0 z)) (λ z. refl)
-
 known_facts : (r : Findings) → known (facts r) ≡ r
 known_facts r = λ i. record {
   kind = r.kind;
-  seq = unless-numbered r.seq i;
+  seq = read-numbered r.seq i;
   ids = judged-found r.ids i;
   fault = judged-found r.fault i;
   again = r.again;

@@ -12,7 +12,6 @@ ghost use Rattle.session.specs.Judging.{logged_out, effect, in_turn, below, due,
 
 use super::{Findings, Judged, Session, Verdict};
 use answer::{Fault, Kind, Outcome, Phase, reasons, tags};
-use table::Judgement;
 use wire::{Reply, Say};
 
 // "36 the smaller of O and tag 16 plus 1 (O for 16=0)".
@@ -38,7 +37,7 @@ fn is_reset(m: Findings) -> bool
 fn is_answered(m: Findings) -> bool
     ensures { result ≡ answered (facts m) }
 {
-    m.kind == Kind::Resend && matches!(m.fault, Judgement::Fine)
+    m.kind == Kind::Resend && m.fault.is_ok()
 }
 
 // ---- what a step answers
@@ -210,8 +209,8 @@ impl Session {
             return self.ended();
         }
         match m.fault {
-            Judgement::Faulty(f) => self.rejected_ended(n, f),
-            Judgement::Fine => self.welcomed(n),
+            Err(f) => self.rejected_ended(n, f),
+            Ok(()) => self.welcomed(n),
         }
     }
 
@@ -259,8 +258,8 @@ impl Session {
         ensures { result ≡ in_turn self n (facts m) (found m.fault) }
     {
         match m.fault {
-            Judgement::Faulty(f) => Verdict::Settled(self.rejected_if(is_reset(m), n, f)),
-            Judgement::Fine => self.effect(n, m),
+            Err(f) => Verdict::Settled(self.rejected_if(is_reset(m), n, f)),
+            Ok(()) => self.effect(n, m),
         }
     }
 
@@ -325,13 +324,12 @@ impl Session {
     pub fn judge(self, m: Findings) -> Verdict
         ensures { result ≡ judged_by self (facts m) }
     {
-        let n = m.seq;
-        if n == 0 {
+        let Some(n) = m.seq else {
             return Verdict::Settled(self.ended());
-        }
+        };
         match m.ids {
-            Judgement::Faulty(f) => Verdict::Settled(self.rejected_ended(n, f)),
-            Judgement::Fine => self.by_phase(n, m),
+            Err(f) => Verdict::Settled(self.rejected_ended(n, f)),
+            Ok(()) => self.by_phase(n, m),
         }
     }
 }
