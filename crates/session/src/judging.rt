@@ -1,5 +1,5 @@
 // The judging of a framed message, step by step, by what was read off it.
-ghost use Rattle.std.specs.Prelude.{◌≡◌, cond, ◌||◌, eqb};
+ghost use Rattle.std.specs.Prelude.{◌≡◌, cond};
 ghost use Rattle.table.specs.Steps.{found};
 ghost use Rattle.answer.specs.declared.Outcome.TheVariants as outcome;
 ghost use Rattle.wire.specs.declared.Say.TheVariants as say;
@@ -26,18 +26,20 @@ fn filled_to(o: u32, last: u32) -> u32
     }
 }
 
-// "type 4 without `123=Y`": reset mode.
-fn is_reset(m: Findings) -> bool
-    ensures { result ≡ reset_mode (facts m) }
-{
-    m.kind == Kind::Reset && !m.filling
-}
+impl Findings {
+    // "type 4 without `123=Y`": reset mode.
+    fn is_reset(self) -> bool
+        ensures { result ≡ reset_mode (facts self) }
+    {
+        self.kind == Kind::Reset && !self.filling
+    }
 
-// "A faultless Resend Request above E is answered first".
-fn is_answered(m: Findings) -> bool
-    ensures { result ≡ answered (facts m) }
-{
-    m.kind == Kind::Resend && m.fault.is_ok()
+    // "A faultless Resend Request above E is answered first".
+    fn is_answered(self) -> bool
+        ensures { result ≡ answered (facts self) }
+    {
+        self.kind == Kind::Resend && self.fault.is_ok()
+    }
 }
 
 // ---- what a step answers
@@ -233,7 +235,7 @@ impl Session {
     fn reset(self, n: u32, m: Findings) -> Verdict
         ensures { result ≡ Settled (moved m.to (reset_mode (facts m)) self n) }
     {
-        Verdict::Settled(self.moved(m.to, is_reset(m), n))
+        Verdict::Settled(self.moved(m.to, m.is_reset(), n))
     }
 
     // The table's column "Effect". Of a report the book is to be asked.
@@ -258,7 +260,7 @@ impl Session {
         ensures { result ≡ in_turn self n (facts m) (found m.fault) }
     {
         match m.fault {
-            Err(f) => Verdict::Settled(self.rejected_if(is_reset(m), n, f)),
+            Err(f) => Verdict::Settled(self.rejected_if(m.is_reset(), n, f)),
             Ok(()) => self.effect(n, m),
         }
     }
@@ -277,7 +279,7 @@ impl Session {
     fn gap_reply(self, m: Findings, due: bool) -> Reply
         ensures { result ≡ gap_reply self (gap_fill self (facts m)) (answered (facts m)) due }
     {
-        match (is_answered(m), due) {
+        match (m.is_answered(), due) {
             (true, true) => Reply::Two(self.gap_fill(m), Say::Resend(self.e)),
             (true, false) => Reply::One(self.gap_fill(m)),
             (false, true) => Reply::One(Say::Resend(self.e)),
@@ -285,19 +287,12 @@ impl Session {
         }
     }
 
-    // "type 4 without `123=Y` ignores its number".
-    fn is_turn(self, n: u32, m: Findings) -> bool
-        ensures { result ≡ (reset_mode (facts m) || eqb n self.e) }
-    {
-        is_reset(m) || n == self.e
-    }
-
-    // Step 4, in phase 2 or 4.
+    // Step 4, in phase 2 or 4: "type 4 without `123=Y` ignores its number".
     #[tactic(auto, unfolding(crate::specs::Judging::step4))]
     fn judge_turn(self, n: u32, m: Findings) -> Verdict
         ensures { result ≡ step4 self n (facts m) }
     {
-        if self.is_turn(n, m) {
+        if m.is_reset() || n == self.e {
             return self.in_turn(n, m);
         }
         if n < self.e {
