@@ -21,7 +21,7 @@ use Rattle.session.specs.contracts.Session.judge as judge
 use Rattle.session.specs.contracts.judging.word_tag as word-tag
 
 -- what was read is known by its facts: a number, and a judgement by its fault
-read : Option ℕ → Maybe ℕ
+abbrev read : Option ℕ → Maybe ℕ
 read (some n) = Some n
 read none = None
 
