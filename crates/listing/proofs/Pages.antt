@@ -1,7 +1,7 @@
 -- Laws of the listing: no listing has more than 65,536 bytes; its first line counts the waiting fills and their contracts; and the loops that count
 -- the fills, sum the contracts and write the lines.
 use Prim.Native.Nat.{ℕ, zero, suc, ◌+◌, ◌-◌, ◌*◌, ◌≤◌, ◌<◌, ◌^◌, min}
-use mathlib.Core.Path.{◌≡◌, sym, ap, ap₂, ◌∙◌, subst}
+use mathlib.Core.Path.{◌≡◌, refl, sym, ap, ap₂, ◌∙◌, subst}
 use mathlib.Core.List.{List, [], ◌∷◌, ◌++◌}
 use mathlib.Core.Logic.{⊎_elim}
 use mathlib.Core.Bool.{true, false, cond, ◌&&◌}
@@ -11,9 +11,9 @@ use lib.ListN.{length, take, drop, length-append, length-take, length-drop}
 use lib.Seq.{take-add, drop-drop, take_all, take-append_seam, drop-append_seam}
 use lib.Dec.{leb}
 use borrow.Author.Tests.{leb-true, ltb-false, lt-ltb, le-ltb}
-use Rattle.octet.specs.Bytes.{between, part}
+use Rattle.octet.specs.Bytes.{between}
 use Rattle.octet.specs.Splice.{splice, fits_at}
-use Rattle.octet.proofs.Cases.{bool_case, of-cond, cond-true, cond-false, and_both, and_left, and_right}
+use Rattle.octet.proofs.Cases.{bool_case, of-cond, cond-true, cond-false, le-or-lt, and_both, and_left, and_right}
 use Rattle.octet.proofs.Lists.{between-high, splice-join, splice-then, splice-nil, splice-read, splice-length, fits-true}
 use Rattle.text.proofs.Decimals.{decimal-length}
 use Rattle.value.specs.Value.{is_time}
@@ -58,12 +58,13 @@ use Rattle.note.specs.Kept.{Kept, waiting}
 use Rattle.note.proofs.Keeping.{AllSlots, AllLawful, fills-all, entries-all}
 use Rattle.restart.specs.Restart.{Outcome, Again, Unlawful, restart, counts_of, told, book_after, HasDay}
 use Rattle.restart.specs.declared.Counts.{Counts}
-use Rattle.restart.specs.declared.Restarted.TheVariants as restarted
+use Rattle.restart.specs.declared.Restarted.{Restarted}
+use Rattle.std.specs.Prelude.{Result, Ok, Err}
 use Rattle.text.specs.declared.Text.{Text}
 use Rattle.text.specs.Writing.{empty, puts, held}
-use Rattle.text.proofs.Puts.{puts-puts, held-short}
+use Rattle.text.proofs.Puts.{held-short}
 use Rattle.restart.proofs.Going.{GivenIn, restart-given}
-use Rattle.listing.specs.Listing.{contracts, lines_from, first_of, first_line, damaged, waiting_page, printed, longest_file, is_too_long, too_long, listing, book_listed, lines_in}
+use Rattle.listing.specs.Listing.{contracts, lines_from, first_of, first_line, damaged, waiting_page, printed, longest_file, is_too_long, too_long, listing, book_listed, said_by, said_of, day_by, day_of, lines_in}
 
 -- ---- how long a line is: that of a lawful fill has at most 99 bytes, that of a lawful entry at most 41
 fill-figures : (s : Slot) → fill_lawful s ≡ true → (side_of s ≤ 2) × (price_of s ≤ most_price)
@@ -307,17 +308,13 @@ lined-done page₀ book page at from last end i h b =
     (g.0, omega arith)
 
 -- ---- what was written over zeros is read back
-pub written_back : (z l z' x : List ℕ) (len : ℕ) → length l ≤ length z → z' ≡ splice z 0 l → len ≡ length l → x ≡ part 0 len z' → x ≡ l
-written_back z l z' x len h e f g = g ∙ ap₂ (part 0) f e ∙ splice-read z 0 l (omega arith)
+pub written_back : (z l z' : List ℕ) (len : ℕ) → length l ≤ length z → z' ≡ splice z 0 l → len ≡ length l → take len z' ≡ l
+written_back z l z' len h e f = ap₂ take f e ∙ splice-read z 0 l (omega arith)
 
 pub line-length : (z l : List ℕ) (len : ℕ) → length l ≤ length z → len ≡ cond (fits_at z 0 l) (length l) 0 → len ≡ length l
 line-length z l len h e = e ∙ cond-true (fits_at z 0 l) (length l) 0 (fits-true z 0 l (omega arith))
 
 -- ---- texts
-pub text-three : {t₀ t₁ t₂ t₃ : Text} (a b d : List ℕ) → t₀ ≡ empty → t₁ ≡ puts t₀ a → t₂ ≡ puts t₁ b → t₃ ≡ puts t₂ d → t₃ ≡ puts empty (a ++ b ++ d)
-text-three a b d e₀ e₁ e₂ e₃ =
-    e₃ ∙ ap (λ (t : Text). puts t d) (e₂ ∙ ap (λ (t : Text). puts t b) (e₁ ∙ ap (λ (t : Text). puts t a) e₀) ∙ puts-puts empty a b) ∙ puts-puts empty (a ++ b) d
-
 -- a text that is placed at the front of a page
 pub placed : (page page' x : List ℕ) (t : Text) (r : ℕ) → t ≡ puts empty x → length x ≤ 512 → length x ≤ length page → page' ≡ splice page 0 (held t)
     → r ≡ cond (fits_at page 0 (held t)) (0 + length (held t)) 0 → (page' ≡ splice page 0 x) × (r ≡ length x)
@@ -336,25 +333,92 @@ page-whole page page₁ page₂ first lines end r h e₁ en e₂ er =
     let l = length-append first lines in
     (e₂ ∙ ap (λ (p : List ℕ). splice p end lines) e₁ ∙ splice-then page 0 end first lines (omega arith) (omega arith), omega arith)
 
--- ---- what a restart gave, as the code has it
+-- ---- the day of the notes, or the line that says that there is none
 never : {A : Type 0} → ◌≡◌ {A = ℕ} 0 1 → A
 never z = absurd (omega arith)
 
+counts_in : Counts → Result Restarted ℕ → Counts
+counts_in k (Ok again) = again.counts
+counts_in k (Err at) = k
+
+-- by what a restart gave
+pub day-again : (o : Outcome) (again : Restarted) (len : ℕ) → Ok again ≡ told o → (Ok again.counts ≡ day_by len o) × ([] ≡ said_by o)
+unfolding counts_in
+day-again (Again q w) again len e = (ap Ok (ap (counts_in again.counts) e), refl)
+day-again (Unlawful at) again len e = never cc
+
+pub day-damaged : (o : Outcome) (at len : ℕ) → Err at ≡ told o → (Err len ≡ day_by len o) × (damaged at ≡ said_by o)
+day-damaged (Again q w) at len e = never cc
+day-damaged (Unlawful p) at len e = let f : at ≡ p = cc in (refl, ap damaged f)
+
+pub damaged-at : (o : Outcome) (at most : ℕ) → Err at ≡ told o → GivenIn most o → at ≤ most
+damaged-at (Again q w) at most e g = never cc
+damaged-at (Unlawful p) at most e g = let f : at ≡ p = cc in omega arith
+
+-- by how long the notes are
+module _ (notes : List ℕ) (len : ℕ) where
+  pub day-long : longest_file < length notes → (Err len ≡ day_of notes len) × (too_long ≡ said_of notes)
+  unfolding day_of said_of
+  day-long h =
+      let t = lt-ltb longest_file (length notes) h in
+      (sym (cond-true (is_too_long notes) (Err len) (day_by len (restart notes)) t), sym (cond-true (is_too_long notes) too_long (said_by (restart notes)) t))
+
+  pub day-is : length notes ≤ longest_file → (day_by len (restart notes) ≡ day_of notes len) × (said_by (restart notes) ≡ said_of notes)
+  unfolding day_of said_of
+  day-is h =
+      let t = le-ltb longest_file (length notes) h in
+      (sym (cond-false (is_too_long notes) (Err len) (day_by len (restart notes)) t), sym (cond-false (is_too_long notes) too_long (said_by (restart notes)) t))
+
+-- the day that is found is the restart's, and is printed
 pub record Paged (o : Outcome) (k : Counts) (book : List ℕ) : Type 0 where
   pub page : waiting_page k.acked (slots_in k.last book) ≡ printed o
   pub few : k.last ≤ most_slots
   pub mark : k.acked ≤ k.last
+  pub unsaid : [] ≡ said_by o
 
-pub paged : (o : Outcome) (k : Counts) (whole most : ℕ) (book : List ℕ) → restarted.Again k whole ≡ told o → GivenIn most o → HasDay book o → Paged o k book
-paged (Unlawful at) k whole most book e g h = never cc
-paged (Again q w) k whole most book e g h =
+paged : (o : Outcome) (k : Counts) (len most : ℕ) (book : List ℕ) → Ok k ≡ day_by len o → GivenIn most o → HasDay book o → Paged o k book
+paged (Unlawful at) k len most book e g h = never cc
+paged (Again q w) k len most book e g h =
     let f : k ≡ counts_of q = cc in
     subst (λ (x : Counts). Paged (Again q w) x book) (sym f)
-    (record { page = ap (waiting_page q.acked) h.0; few = g.sound.few; mark = g.sound.mark })
+    (record { page = ap (waiting_page q.acked) h.0; few = g.sound.few; mark = g.sound.mark; unsaid = refl })
 
-pub damaged-is : (o : Outcome) (at : ℕ) → restarted.Unlawful at ≡ told o → damaged at ≡ printed o
-damaged-is (Again q w) at e = never cc
-damaged-is (Unlawful p) at e = let f : at ≡ p = cc in ap damaged f
+pub record Found (notes : List ℕ) (len : ℕ) (k : Counts) (book : List ℕ) : Type 0 where
+  pub short : length notes ≤ longest_file
+  pub given : Ok k ≡ day_by len (restart notes)
+  pub paged : Paged (restart notes) k book
+  pub unsaid : [] ≡ said_of notes
+
+pub found : (notes : List ℕ) (len : ℕ) (k : Counts) (book : List ℕ) → Ok k ≡ day_of notes len → HasDay book (restart notes) → Found notes len k book
+found notes len k book e h =
+    ⊎_elim
+    (λ l. (let d = day-is notes len l in
+    let g = e ∙ sym d.0 in
+    let p = paged (restart notes) k len (length notes) book g (restart-given notes) h in
+    record { short = l; given = g; paged = p; unsaid = p.unsaid ∙ d.1 }))
+    (λ l. never (let d = (day-long notes len l).0 in cc))
+    (le-or-lt (length notes) longest_file)
+
+-- of a file that keeps none, the line is what is printed, and it is short
+pub record Unfound (notes : List ℕ) (len r : ℕ) : Type 0 where
+  pub len-is : r ≡ len
+  pub said : said_of notes ≡ listing notes
+  pub short : length (said_of notes) ≤ 32
+
+damaged-short : (o : Outcome) (len r most : ℕ) → Err r ≡ day_by len o → most ≤ longest_file → GivenIn most o → (r ≡ len) × (said_by o ≡ printed o) × (length (said_by o) ≤ 32)
+damaged-short (Again q w) len r most e h g = never cc
+damaged-short (Unlawful at) len r most e h g = (cc, refl, damaged-most at (omega arith))
+
+pub unfound : (notes : List ℕ) (len r : ℕ) → Err r ≡ day_of notes len → Unfound notes len r
+unfound notes len r e =
+    ⊎_elim
+    (λ l. (let d = day-is notes len l in
+    let g = damaged-short (restart notes) len r (length notes) (e ∙ sym d.0) l (restart-given notes) in
+    record { len-is = g.0; said = sym d.1 ∙ g.1 ∙ sym (listing-is notes l); short = omega (arith, g.2, ap length d.1) }))
+    (λ l. (let d = day-long notes len l in
+    let f = d.0 in
+    record { len-is = cc; said = sym d.1 ∙ sym (listing-long notes l); short = omega (arith, ap length d.1) }))
+    (le-or-lt (length notes) longest_file)
 
 pub book-long : (book notes : List ℕ) → longest_file < length notes → book ≡ book_listed book notes
 unfolding book_listed
@@ -366,10 +430,6 @@ book-is book notes h = sym (cond-false (is_too_long notes) book (book_after book
 
 pub printed-fits : (notes : List ℕ) → length notes ≤ longest_file → length (printed (restart notes)) ≤ longest_file
 printed-fits notes h = subst (λ (l : List ℕ). length l ≤ longest_file) (listing-is notes h) (listing-most notes)
-
-pub damaged-at : (o : Outcome) (at most : ℕ) → restarted.Unlawful at ≡ told o → GivenIn most o → at ≤ most
-damaged-at (Again q w) at most e g = never cc
-damaged-at (Unlawful p) at most e g = let f : at ≡ p = cc in omega arith
 
 -- ---- the page of what waits: its first line stands, and there is room for the others
 module _ (f k fills sum end : ℕ) (book page page₁ : List ℕ) (t : Text) where

@@ -1,5 +1,5 @@
 -- "What the listing prints".
-use Rattle.std.specs.Prelude.{ℕ, ◌+◌, ◌≡◌, List, [], ◌∷◌, ◌++◌, Bool, cond, length, drop, ltb}
+use Rattle.std.specs.Prelude.{ℕ, ◌+◌, ◌≡◌, List, [], ◌∷◌, ◌++◌, Bool, cond, length, drop, ltb, Result, Ok, Err}
 use Rattle.octet.specs.Bytes.{bytes_of}
 use Rattle.octet.specs.Splice.{splice}
 use Rattle.text.specs.Decimal.{decimal}
@@ -9,7 +9,8 @@ use Rattle.book.specs.Memory.{slots_in}
 use Rattle.book.specs.Place.{sum_where}
 use Rattle.book.specs.Orders.{fills_of}
 use Rattle.note.specs.Notes.{written}
-use Rattle.restart.specs.Restart.{Outcome, Again, Unlawful, restart, book_after}
+use Rattle.restart.specs.Restart.{Outcome, Again, Unlawful, restart, counts_of, book_after, HasDay}
+use Rattle.restart.specs.declared.Counts.{Counts}
 
 -- the contracts of the fills among some slots: the sum of their LastShares
 abbrev pub contracts : List Slot → ℕ
@@ -68,6 +69,32 @@ waiting_in acked last book = waiting_page acked (slots_in last book)
 -- what printing the waiting ones answers, and what stands on the page
 abbrev pub PrintsWaiting : ℕ → ℕ → List ℕ → List ℕ → ℕ → List ℕ → Type 0
 PrintsWaiting acked last book page r page' = (page' ≡ splice page 0 (waiting_in acked last book)) × (r ≡ length (waiting_in acked last book))
+
+-- the line of a file of notes that keeps no day: it is too long, or damaged
+abbrev pub said_by : Outcome → List ℕ
+said_by (Again q whole) = []
+said_by (Unlawful at) = damaged at
+
+unfoldable pub said_of : List ℕ → List ℕ
+said_of notes = cond (is_too_long notes) too_long (said_by (restart notes))
+
+-- the day that it keeps; or how long that line is
+abbrev pub day_by : ℕ → Outcome → Result Counts ℕ
+day_by len (Again q whole) = Ok (counts_of q)
+day_by len (Unlawful at) = Err len
+
+unfoldable pub day_of : List ℕ → ℕ → Result Counts ℕ
+day_of notes len = cond (is_too_long notes) (Err len) (day_by len (restart notes))
+
+-- a book has the slots and the rows of the day, where there is one
+abbrev pub HoldsDay : List ℕ → Result Counts ℕ → List ℕ → Type 0
+HoldsDay notes (Ok m) book = HasDay book (restart notes)
+HoldsDay notes (Err len) book = Unit
+
+-- what looking for the day answers, and what stands on the page and in the book
+abbrev pub FindsDay : List ℕ → List ℕ → List ℕ → Result Counts ℕ → List ℕ → List ℕ → Type 0
+FindsDay notes book page r book' page' =
+    (r ≡ day_of notes (written page (said_of notes))) × (page' ≡ splice page 0 (said_of notes)) × (book' ≡ book_listed book notes) × HoldsDay notes r book'
 
 -- what printing on a page that has room answers, and what stands on the page and in the book
 abbrev pub Prints : List ℕ → List ℕ → List ℕ → ℕ → List ℕ → List ℕ → Type 0

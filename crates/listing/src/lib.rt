@@ -9,29 +9,41 @@ ghost use Rattle.fill.specs.Booked.{line_of};
 ghost use Rattle.book.specs.Memory.{most_slots, slots_in};
 ghost use Rattle.book.specs.Orders.{fills_of};
 ghost use Rattle.text.specs.Writing.{empty, puts};
-ghost use Rattle.listing.specs.Listing.{contracts, first_of, damaged, longest_file, lines_in, waiting_in, PrintsWaiting, Prints, Lists};
+ghost use Rattle.note.specs.Notes.{written};
+ghost use Rattle.listing.specs.Listing.{contracts, first_of, damaged, longest_file, lines_in, waiting_in, PrintsWaiting, FindsDay, Prints, Lists};
 
 use book::BOOK;
 use fill::LINE;
-use restart::{Counts, Restarted};
+use restart::Counts;
 use text::Text;
 
 // "Over 65,536 bytes it prints only `too long`"; and no listing is longer than that.
 pub const PAGE: usize = 65536;
 
 // "first line, fills waiting and their contracts".
+#[tactic(auto, using(text::proofs::Puts::putting), unfolding(crate::specs::Listing::first_of))]
 fn first_text(fills: u64, sum: u64) -> Text
     ensures { result ≡ puts empty (first_of fills sum) }
 {
-    let waiting = Text::new().part(b"waiting ", 8).decimal(fills);
-    waiting.part(b" contracts ", 11).decimal(sum).put(b'\n')
+    let mut t = Text::new();
+    t.all(b"waiting ");
+    t.decimal(fills);
+    t.all(b" contracts ");
+    t.decimal(sum);
+    t.put(b'\n');
+    t
 }
 
 // The line of a file with an unlawful note, whose first byte is at that place.
+#[tactic(auto, using(text::proofs::Puts::putting), unfolding(crate::specs::Listing::damaged))]
 pub fn damaged_text(at: u64) -> Text
     ensures { result ≡ puts empty (damaged at) }
 {
-    Text::new().part(b"damaged at ", 11).decimal(at).put(b'\n')
+    let mut t = Text::new();
+    t.all(b"damaged at ");
+    t.decimal(at);
+    t.put(b'\n');
+    t
 }
 
 // LastShares of a slot that is a fill, else 0.
@@ -39,15 +51,10 @@ fn shares_in(s: &[u8]) -> u64
     ensures { (result ≡ cond (is_fill s.now) (shares_of s.now) 0) × (result ≤ largest) }
 {
     if fill::is_fill(s) {
-        return wide(fill::shares_of(s));
+        u64::from(fill::shares_of(s))
+    } else {
+        0
     }
-    0
-}
-
-fn wide(n: u32) -> u64
-    ensures { (result ≡ n) × (result ≤ largest) }
-{
-    n as u64
 }
 
 // How many of the slots from number from + 1 to the last are fills.
@@ -56,12 +63,10 @@ fn count_from(book: &[u8; BOOK], from: usize, last: usize) -> u64
     ensures { result ≡ fills_of (drop from (slots_in last book.now)) }
 {
     let mut fills: u64 = 0;
-    let mut i = from;
-    while i < last {
+    for i in from..last {
         if fill::is_fill(book::slot_at(book, i)) {
             fills += 1;
         }
-        i += 1;
     }
     fills
 }
@@ -72,10 +77,8 @@ fn sum_from(book: &[u8; BOOK], from: usize, last: usize) -> u64
     ensures { (result ≡ contracts (drop from (slots_in last book.now))) × (result ≤ most_slots * largest) }
 {
     let mut sum: u64 = 0;
-    let mut i = from;
-    while i < last {
+    for i in from..last {
         sum += shares_in(book::slot_at(book, i));
-        i += 1;
     }
     sum
 }
@@ -86,15 +89,8 @@ fn put_line(page: &mut [u8], at: usize, n: u32, slot: &[u8]) -> usize
 {
     let mut line = [0u8; LINE];
     let len = fill::write_line(n, slot, &mut line);
-    octet::copy_into(page, at, octet::part(&line, 0, len));
+    octet::copy_into(page, at, &line[..len]);
     len
-}
-
-fn narrow(n: usize) -> u32
-    requires { n ≤ most_slots }
-    ensures { result ≡ n }
-{
-    n as u32
 }
 
 // Writes the lines of the slots after number from, and says where they end.
@@ -103,18 +99,10 @@ fn put_lines(page: &mut [u8], at: usize, book: &[u8; BOOK], from: usize, last: u
     ensures { (page.new ≡ splice page.old at (lines_in from last book.now)) × (result ≡ at + length (lines_in from last book.now)) }
 {
     let mut end = at;
-    let mut i = from;
-    while i < last {
-        end += put_line(page, end, narrow(i + 1), book::slot_at(book, i));
-        i += 1;
+    for i in from..last {
+        end += put_line(page, end, (i + 1) as u32, book::slot_at(book, i));
     }
     end
-}
-
-fn size(n: u32) -> usize
-    ensures { result ≡ n }
-{
-    n as usize
 }
 
 // Writes the listing of what waits, and says how long it is.
@@ -122,12 +110,37 @@ fn print_waiting(m: Counts, book: &[u8; BOOK], page: &mut [u8]) -> usize
     requires { (m.last ≤ most_slots) × (m.acked ≤ m.last) × (length (waiting_in m.acked m.last book.now) ≤ length page.old) }
     ensures { PrintsWaiting m.acked m.last book.now page.old result page.new }
 {
-    let last = size(m.last);
-    let acked = size(m.acked);
+    let last = m.last as usize;
+    let acked = m.acked as usize;
     let fills = count_from(book, acked, last);
     let sum = sum_from(book, acked, last);
     let end = first_text(fills, sum).place(page, 0);
     put_lines(page, end, book, acked, last)
+}
+
+// Writes a text from the front of out, and says how long it is; where it does not fit nothing is written, and the answer is 0.
+pub fn put_front(out: &mut [u8], text: &[u8]) -> usize
+    ensures { (result ≡ written out.old text.now) × (out.new ≡ splice out.old 0 text.now) }
+{
+    if octet::copy_into(out, 0, text) {
+        text.len()
+    } else {
+        0
+    }
+}
+
+// The day that the notes keep; or, where they are too long or damaged, how long the line is that says so, from the front of the page.
+// The lent book is then that of the restart.
+pub fn day_of(notes: &[u8], book: &mut [u8; BOOK], page: &mut [u8]) -> Result<Counts, usize>
+    ensures { FindsDay notes.now book.old page.old result book.new page.new }
+{
+    if PAGE < notes.len() {
+        return Err(put_front(page, b"too long\n"));
+    }
+    match restart::restart(book, notes) {
+        Ok(again) => Ok(again.counts),
+        Err(at) => Err(put_front(page, damaged_text(at as u64).held())),
+    }
 }
 
 // Writes the listing over a page that has room for any, and says how long it is.
@@ -135,13 +148,9 @@ fn print(notes: &[u8], book: &mut [u8; BOOK], page: &mut [u8]) -> usize
     requires { length page.old ≡ longest_file }
     ensures { Prints notes.now book.old page.old result book.new page.new }
 {
-    if PAGE < notes.len() {
-        octet::copy_into(page, 0, b"too long\n");
-        return 9;
-    }
-    match restart::restart(book, notes) {
-        Restarted::Again(m, _) => print_waiting(m, book, page),
-        Restarted::Unlawful(at) => damaged_text(at as u64).place(page, 0),
+    match day_of(notes, book, page) {
+        Ok(m) => print_waiting(m, book, page),
+        Err(len) => len,
     }
 }
 
@@ -152,8 +161,5 @@ pub fn write_listing(notes: &[u8], book: &mut [u8; BOOK], out: &mut [u8]) -> usi
 {
     let mut page = [0u8; PAGE];
     let n = print(notes, book, &mut page);
-    if octet::copy_into(out, 0, octet::part(&page, 0, n)) {
-        return n;
-    }
-    0
+    put_front(out, &page[..n])
 }

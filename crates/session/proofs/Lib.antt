@@ -1,5 +1,4 @@
 pub mod Turns
 pub mod Leaving
 pub mod Listed
-pub mod Answers
 pub mod Unique

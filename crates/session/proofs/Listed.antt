@@ -6,7 +6,7 @@ use mathlib.Core.Bool.{Bool, true, false, cond}
 use mathlib.Core.Option.{Option}
 use Rattle.field.specs.Index.{listed, position, column_of, is_listed}
 use Rattle.field.specs.Look.{Look, first, at_listed}
-use Rattle.field.specs.declared.Scan.{Scan}
+use Rattle.field.specs.Pieces.{Scan}
 use Rattle.field.proofs.Looks.{text-listed}
 use Rattle.table.specs.Rows.{kind_by}
 use Rattle.table.specs.Steps.{number_of, given_of}

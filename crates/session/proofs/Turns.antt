@@ -14,12 +14,12 @@ use lib.Dec.{leb, ltb, eqb}
 use borrow.Author.Tests.{eq-eqb, eqb-true, ltb-true}
 use Rattle.octet.proofs.Cases.{of-cond, true-not-false, or_right}
 use Rattle.value.specs.Readers.{number_read}
-use Rattle.value.specs.declared.Number.{Number}
-use Rattle.value.specs.declared.Number.TheVariants as number
+use Rattle.std.specs.Prelude.{Result, Ok, Err}
+use Rattle.value.specs.declared.Flaw.{Flaw}
+use Rattle.value.specs.declared.Flaw.TheVariants.{Form, Range}
 use Rattle.value.proofs.Numbers.{number-good, number-or-small}
-use Rattle.field.specs.Pieces.{Pieces, first_of, scan_of}
+use Rattle.field.specs.Pieces.{Pieces, Scan, first_of, scan_of}
 use Rattle.field.specs.Look.{Look, look_of, first}
-use Rattle.field.specs.declared.Scan.{Scan}
 use Rattle.field.proofs.Looks.{first-of}
 use Rattle.table.specs.Rows.{kind_in}
 use Rattle.table.specs.Steps.{fault_in}
@@ -48,10 +48,10 @@ use Rattle.session.specs.declared.Verdict.TheVariants.{Settled, Report, Correcti
 
 -- ---- what is read is small
 
-read-value : (n : ℕ) (r : Number) → number_if r ≡ some n → r ≡ number.Value n
-read-value n (number.Value k) e = cc
-read-value n (number.BadForm at) e = cc
-read-value n number.OutOfRange e = cc
+read-value : (n : ℕ) (r : Result ℕ Flaw) → number_if r ≡ some n → r ≡ Ok n
+read-value n (Ok k) e = cc
+read-value n (Err (Form at)) e = cc
+read-value n (Err Range) e = cc
 
 pub seq-read : (v : Option (List ℕ)) (n : ℕ) → seq_given v ≡ some n → (1 ≤ n) × (n ≤ 999999998)
 seq-read none n e = let z : ◌≡◌ {A = ℕ} 0 1 = cc in absurd (omega arith)

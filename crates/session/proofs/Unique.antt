@@ -1,11 +1,8 @@
 -- No second answer satisfies the contract of a public function: proved of the contract itself (octet's Once.antt).
 use mathlib.Core.Path.{◌≡◌, refl, sym, ap, ◌∙◌}
-use mathlib.Core.Option.{none, some}
+use mathlib.Core.Option.{Option, none, some}
 use Prim.Native.Nat.{ℕ}
-use lib.Dec.{eqb}
-use borrow.Author.Tests.{eqb-true}
-use Rattle.octet.specs.Maybe.{unless}
-use Rattle.octet.proofs.Cases.{of-cond, ap-cond}
+use Rattle.std.specs.Prelude.{Some, None, Option as Maybe}
 use Rattle.table.proofs.Unique.{judged, judged-found}
 use Rattle.session.specs.Reading.{Facts, numbered, facts}
 use Rattle.session.specs.declared.Findings.{Findings}
@@ -15,10 +12,6 @@ use Rattle.session.specs.contracts.Session.fresh as fresh
 use Rattle.session.specs.contracts.Session.is_off as is-off
 use Rattle.session.specs.contracts.Session.is_on as is-on
 use Rattle.session.specs.contracts.Session.may_call as may-call
-use Rattle.session.specs.contracts.Session.open as opening
-use Rattle.session.specs.contracts.Session.heartbeat as heartbeat
-use Rattle.session.specs.contracts.Session.test_request as test-request
-use Rattle.session.specs.contracts.Session.close as close
 use Rattle.session.specs.contracts.Session.own as own
 use Rattle.session.specs.contracts.Session.line_lost as line-lost
 use Rattle.session.specs.contracts.Session.rejected as rejected
@@ -27,11 +20,19 @@ use Rattle.session.specs.contracts.reading.findings_of as findings-of
 use Rattle.session.specs.contracts.Session.judge as judge
 use Rattle.session.specs.contracts.judging.word_tag as word-tag
 
--- what was read is known by its facts: 0 is no number, and a judgement is known by its fault
+-- what was read is known by its facts: a number, and a judgement by its fault
+abbrev read : Option ℕ → Maybe ℕ
+read (some n) = Some n
+read none = None
+
+read-numbered : (n : Maybe ℕ) → read (numbered n) ≡ n
+read-numbered (Some n) = refl
+read-numbered None = refl
+
 abbrev known : Facts → Findings
 known f = record {
   kind = f.kind;
-  seq = unless 0 f.seq;
+  seq = read f.seq;
   ids = judged f.ids;
   fault = judged f.fault;
   again = f.again;
@@ -41,13 +42,10 @@ known f = record {
   to = f.to;
 }
 
-unless-numbered : (n : ℕ) → unless 0 (numbered n) ≡ n
-unless-numbered n = ap-cond (unless 0) (eqb n 0) none (some n) ∙ of-cond (λ (x : ℕ). x ≡ n) (eqb n 0) (λ z. sym (eqb-true n 0 z)) (λ z. refl)
-
 known_facts : (r : Findings) → known (facts r) ≡ r
 known_facts r = λ i. record {
   kind = r.kind;
-  seq = unless-numbered r.seq i;
+  seq = read-numbered r.seq i;
   ids = judged-found r.ids i;
   fault = judged-found r.fault i;
   again = r.again;
@@ -71,18 +69,6 @@ is-on-once M 𝓤 𝓛 mem run κs a g = (_, λ r e. alone 𝓤)
 
 pub may-call-once : Once may-call.ended (λ M 𝓤. may-call.clauses) (λ κs r e. r)
 may-call-once M 𝓤 𝓛 mem run κs a g = (_, λ r e. alone 𝓤)
-
-pub open-once : Once opening.ended (λ M 𝓤. opening.clauses) (λ κs r e. r)
-open-once M 𝓤 𝓛 mem run κs a g = (_, λ r e. alone 𝓤)
-
-pub heartbeat-once : Once heartbeat.ended (λ M 𝓤. heartbeat.clauses) (λ κs r e. r)
-heartbeat-once M 𝓤 𝓛 mem run κs a g = (_, λ r e. alone 𝓤)
-
-pub test-request-once : Once test-request.ended (λ M 𝓤. test-request.clauses) (λ κs r e. r)
-test-request-once M 𝓤 𝓛 mem run κs a g = (_, λ r e. alone 𝓤)
-
-pub close-once : Once close.ended (λ M 𝓤. close.clauses) (λ κs r e. r)
-close-once M 𝓤 𝓛 mem run κs a g = (_, λ r e. alone 𝓤)
 
 pub own-once : Once own.ended (λ M 𝓤. own.clauses) (λ κs r e. r)
 own-once M 𝓤 𝓛 mem run κs a g = (_, λ r e. alone 𝓤)

@@ -1,13 +1,12 @@
 -- What the steps read off a message, by a look at its body: steps 1 and 2, what steps 5 to 7 find, and the values that the effects need.
-use Rattle.std.specs.Prelude.{ℕ, List, Bool, cond, eqb}
+use Rattle.std.specs.Prelude.{ℕ, List, Bool, cond, Result, Some, None, Option as Maybe}
 use Rattle.std.proofs.Math.Option.{Option, none, some}
 use Rattle.octet.specs.Bytes.{bytes_of}
 use Rattle.octet.specs.Maybe as maybe
 use Rattle.value.specs.Readers.{number_read, number_reason, number_values}
-use Rattle.value.specs.declared.Number.{Number}
-use Rattle.field.specs.Pieces.{Pieces, is_that, scan_of}
+use Rattle.value.specs.declared.Flaw.{Flaw}
+use Rattle.field.specs.Pieces.{Pieces, Scan, is_that, scan_of}
 use Rattle.field.specs.Look.{Look, look_of, first}
-use Rattle.field.specs.declared.Scan.{Scan}
 use Rattle.table.specs.Rows.{kind_by}
 use Rattle.table.specs.Steps.{number_of, given_of, first_fault, found}
 use Rattle.answer.specs.Setup.{ours, theirs}
@@ -34,7 +33,7 @@ pub record Facts : Type 0 where
   pub to : ℕ
 
 -- step 1: "The first `34=` field is 1 to 999,999,998, 1 to 9 digits"
-abbrev pub number_if : Number → Option ℕ
+abbrev pub number_if : Result ℕ Flaw → Option ℕ
 number_if r = cond (maybe.is_none (number_reason r)) (maybe.first (number_values r)) none
 
 abbrev pub seq_given : Option (List ℕ) → Option ℕ
@@ -69,9 +68,10 @@ facts_in setup s ps = facts_of setup s (scan_of ps) (look_of ps)
 
 -- ---- what was read, as the code hands it on
 
--- a number, 0 for none
-abbrev pub numbered : ℕ → Option ℕ
-numbered n = cond (eqb n 0) none (some n)
+-- a number, where there is one
+abbrev pub numbered : Maybe ℕ → Option ℕ
+numbered (Some n) = some n
+numbered None = none
 
 abbrev pub facts : Findings → Facts
 facts m = record {

@@ -1,6 +1,6 @@
 -- The session by value, and our own calls: "open (phase 0 or 3; Logon with 98=0 and 108=30; phase 1), heartbeat, test request (112 is O in decimal), close (Logout; phase 4), the
 -- last three in phase 2. Each uses one O."
-use Rattle.std.specs.Prelude.{ℕ, Bool, ◌||◌, not, eqb}
+use Rattle.std.specs.Prelude.{ℕ, Bool, ◌||◌, not, eqb, Some, None}
 use Rattle.answer.specs.Numbers.{phase_number, counted}
 use Rattle.answer.specs.declared.Phase.{Phase}
 use Rattle.answer.specs.declared.Phase.TheVariants as phase
@@ -17,7 +17,7 @@ use Rattle.session.specs.declared.Judged.{Judged}
 
 -- "fresh: phase 0, E = O = 1"
 abbrev pub fresh : Session
-fresh = record { phase = phase.Out; e = 1; o = 1; asked = 0 }
+fresh = record { phase = phase.Out; e = 1; o = 1; asked = None }
 
 abbrev pub into : Phase → Session → Session
 into p s = record { phase = p; e = s.e; o = s.o; asked = s.asked }
@@ -27,7 +27,7 @@ expecting e s = record { phase = s.phase; e = e; o = s.o; asked = s.asked }
 
 -- a Resend Request is written for this E
 abbrev pub asking : Session → Session
-asking s = record { phase = s.phase; e = s.e; o = s.o; asked = s.e }
+asking s = record { phase = s.phase; e = s.e; o = s.o; asked = Some s.e }
 
 -- "raises E by 1"
 abbrev pub raised : Session → Session

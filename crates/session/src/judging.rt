@@ -1,7 +1,6 @@
 // The judging of a framed message, step by step, by what was read off it.
-ghost use Rattle.std.specs.Prelude.{◌≡◌, true, false, cond, ◌||◌, eqb};
+ghost use Rattle.std.specs.Prelude.{◌≡◌, cond};
 ghost use Rattle.table.specs.Steps.{found};
-ghost use Rattle.answer.specs.Numbers.{kind_number, is_kind};
 ghost use Rattle.answer.specs.declared.Outcome.TheVariants as outcome;
 ghost use Rattle.wire.specs.declared.Say.TheVariants as say;
 ghost use Rattle.wire.specs.declared.Reply.TheVariants.{Nothing, One};
@@ -9,70 +8,37 @@ ghost use Rattle.session.specs.declared.Verdict.TheVariants.{Settled};
 ghost use Rattle.session.specs.Session.{asking, raised, judged, is_in};
 ghost use Rattle.session.specs.Reading.{facts};
 ghost use Rattle.session.specs.Judging.{ended, rejected_ended, welcomed, step3, reset_mode, rejected_to, rejected, rejected_if, passed, heard, filled_to, gap_fill, moved};
-ghost use Rattle.session.specs.Judging.{logged_out, effect, in_turn, below, due, answered, gap_reply, gap, step4, by_phase, judged_by, echoes, word_tag};
+ghost use Rattle.session.specs.Judging.{logged_out, effect, in_turn, below, due, answered, gap_reply, gap, step4, by_phase, judged_by, word_tag};
 
 use super::{Findings, Judged, Session, Verdict};
 use answer::{Fault, Kind, Outcome, Phase, reasons, tags};
-use table::Judgement;
 use wire::{Reply, Say};
 
-// Which row of the table a type has, to tell one from another.
-fn kind_number(k: Kind) -> u32
-    ensures { result ≡ kind_number k }
-{
-    match k {
-        Kind::Logon => 0,
-        Kind::Heartbeat => 1,
-        Kind::Test => 2,
-        Kind::Resend => 3,
-        Kind::Reset => 4,
-        Kind::Logout => 5,
-        Kind::Report => 6,
-        Kind::Correction => 7,
-        Kind::Other => 8,
-        Kind::Unlisted => 9,
-    }
-}
-
-fn is_kind(a: Kind, b: Kind) -> bool
-    ensures { result ≡ is_kind a b }
-{
-    kind_number(a) == kind_number(b)
-}
-
 // "36 the smaller of O and tag 16 plus 1 (O for 16=0)".
+#[tactic(auto, unfolding(crate::specs::Judging::filled_to))]
 fn filled_to(o: u32, last: u32) -> u32
     ensures { result ≡ filled_to o last }
 {
     if last == 0 {
-        return o;
+        o
+    } else {
+        o.min(last.saturating_add(1))
     }
-    if last < o { last + 1 } else { o }
 }
 
-// "type 4 without `123=Y`": reset mode.
-fn is_reset(m: Findings) -> bool
-    ensures { result ≡ reset_mode (facts m) }
-{
-    let kind = m.kind;
-    if is_kind(kind, Kind::Reset) {
-        return !m.filling;
+impl Findings {
+    // "type 4 without `123=Y`": reset mode.
+    fn is_reset(self) -> bool
+        ensures { result ≡ reset_mode (facts self) }
+    {
+        self.kind == Kind::Reset && !self.filling
     }
-    false
-}
 
-// "A faultless Resend Request above E is answered first".
-fn is_answered(m: Findings) -> bool
-    ensures { result ≡ answered (facts m) }
-{
-    let kind = m.kind;
-    if !is_kind(kind, Kind::Resend) {
-        return false;
-    }
-    let fault = m.fault;
-    match fault {
-        Judgement::Faulty(_) => false,
-        Judgement::Fine => true,
+    // "A faultless Resend Request above E is answered first".
+    fn is_answered(self) -> bool
+        ensures { result ≡ answered (facts self) }
+    {
+        self.kind == Kind::Resend && self.fault.is_ok()
     }
 }
 
@@ -122,6 +88,7 @@ impl Session {
     }
 
     // "A rejected type 4 in reset mode leaves E".
+    #[tactic(auto, unfolding(crate::specs::Judging::rejected_if))]
     fn rejected_if(self, reset: bool, n: u32, f: Fault) -> Judged
         ensures { result ≡ rejected_if reset self n f }
     {
@@ -178,25 +145,23 @@ impl Session {
     }
 
     // "Type 4 with 36 above E answers with 36 less the old E. At or below E it is Reject 5 tag 36, except equal to E in reset mode: heard, E stays."
+    #[tactic(auto, unfolding(crate::specs::Judging::moved))]
     fn moved(self, to: u32, reset: bool, n: u32) -> Judged
         ensures { result ≡ moved to reset self n }
     {
-        let fault = Fault::of(reasons::WRONG_VALUE, tags::TO);
         if self.e < to {
             return self
                 .expecting(to)
                 .settled(Outcome::Moved(to - self.e), Reply::Nothing);
         }
-        if to != self.e {
-            return self.rejected_if(reset, n, fault);
-        }
-        if reset {
+        if to == self.e && reset {
             return self.settled(Outcome::Heard, Reply::Nothing);
         }
-        self.rejected_if(reset, n, fault)
+        self.rejected_if(reset, n, Fault::of(reasons::WRONG_VALUE, tags::TO))
     }
 
     // "Logout in phase 2, none in 4; ended".
+    #[tactic(auto, unfolding(crate::specs::Judging::logged_out))]
     fn logged_out(self) -> Verdict
         ensures { result ≡ Settled (logged_out self) }
     {
@@ -208,9 +173,10 @@ impl Session {
         ensures { result ≡ cond (is_in self.phase) (One say.Logout) Nothing }
     {
         if self.is_in() {
-            return Reply::One(Say::Logout);
+            Reply::One(Say::Logout)
+        } else {
+            Reply::Nothing
         }
-        Reply::Nothing
     }
 
     // "below E: with `43=Y` dropped, else Logout, ended".
@@ -218,23 +184,18 @@ impl Session {
         ensures { result ≡ below self (facts m) }
     {
         if m.again {
-            return self.settled(Outcome::Dropped, Reply::Nothing);
+            self.settled(Outcome::Dropped, Reply::Nothing)
+        } else {
+            self.ended()
         }
-        self.ended()
     }
 
     // "unless one was written for this same E and the message neither has `43=Y` nor is a Heartbeat".
+    #[tactic(auto, unfolding(crate::specs::Judging::due))]
     fn is_due(self, m: Findings) -> bool
         ensures { result ≡ due self (facts m) }
     {
-        if self.asked != self.e {
-            return true;
-        }
-        if m.again {
-            return true;
-        }
-        let kind = m.kind;
-        is_kind(kind, Kind::Heartbeat)
+        self.asked != Some(self.e) || m.again || m.kind == Kind::Heartbeat
     }
 }
 
@@ -242,20 +203,16 @@ impl Session {
 
 impl Session {
     // Step 3, in phase 1: "type A numbered E or more, else Logout, ended. Faulty by steps 5 to 7: Reject and Logout, ended."
+    #[tactic(auto, unfolding(crate::specs::Judging::step3))]
     fn judge_logon(self, n: u32, m: Findings) -> Judged
         ensures { result ≡ step3 self n (facts m) }
     {
-        let kind = m.kind;
-        if !is_kind(kind, Kind::Logon) {
+        if m.kind != Kind::Logon || n < self.e {
             return self.ended();
         }
-        if n < self.e {
-            return self.ended();
-        }
-        let fault = m.fault;
-        match fault {
-            Judgement::Faulty(f) => self.rejected_ended(n, f),
-            Judgement::Fine => self.welcomed(n),
+        match m.fault {
+            Err(f) => self.rejected_ended(n, f),
+            Ok(()) => self.welcomed(n),
         }
     }
 
@@ -278,89 +235,64 @@ impl Session {
     fn reset(self, n: u32, m: Findings) -> Verdict
         ensures { result ≡ Settled (moved m.to (reset_mode (facts m)) self n) }
     {
-        Verdict::Settled(self.moved(m.to, is_reset(m), n))
+        Verdict::Settled(self.moved(m.to, m.is_reset(), n))
     }
 
     // The table's column "Effect". Of a report the book is to be asked.
+    #[tactic(auto, unfolding(crate::specs::Judging::effect))]
     fn effect(self, n: u32, m: Findings) -> Verdict
         ensures { result ≡ effect self n (facts m) m.kind }
     {
-        let kind = m.kind;
-        match kind {
-            Kind::Logon => self.heard(),
-            Kind::Heartbeat => self.heard(),
+        match m.kind {
+            Kind::Logon | Kind::Heartbeat | Kind::Other | Kind::Unlisted => self.heard(),
             Kind::Test => self.echoed(),
             Kind::Resend => self.filled(m),
             Kind::Reset => self.reset(n, m),
             Kind::Logout => self.logged_out(),
             Kind::Report => Verdict::Report(n),
             Kind::Correction => Verdict::Correction(n),
-            Kind::Other => self.heard(),
-            Kind::Unlisted => self.heard(),
         }
     }
 
     // Steps 5 to 7, and the effect of a faultless message.
+    #[tactic(auto, unfolding(crate::specs::Judging::in_turn))]
     fn in_turn(self, n: u32, m: Findings) -> Verdict
         ensures { result ≡ in_turn self n (facts m) (found m.fault) }
     {
-        let fault = m.fault;
-        match fault {
-            Judgement::Faulty(f) => {
-                let reset = is_reset(m);
-                Verdict::Settled(self.rejected_if(reset, n, f))
-            }
-            Judgement::Fine => self.effect(n, m),
+        match m.fault {
+            Err(f) => Verdict::Settled(self.rejected_if(m.is_reset(), n, f)),
+            Ok(()) => self.effect(n, m),
         }
     }
 
     // "Above E: a gap, not applied, answered by a Resend Request (7=E, 16=0)".
+    #[tactic(auto, unfolding(crate::specs::Judging::gap))]
     fn gap(self, m: Findings) -> Judged
         ensures { result ≡ gap self (facts m) }
     {
         let due = self.is_due(m);
-        if is_answered(m) {
-            return self.gap_filled(self.gap_fill(m), due);
-        }
-        self.gap_seen(due)
+        let next = if due { self.asking() } else { self };
+        next.settled(Outcome::Gap, self.gap_reply(m, due))
     }
 
-    // A gap by a Resend Request that is answered, and by any other message.
-    fn gap_filled(self, fill: Say, due: bool) -> Judged
-        ensures { result ≡ judged outcome.Gap (gap_reply self fill true due) (cond due (asking self) self) }
+    // Our request, and before it the gap fill.
+    fn gap_reply(self, m: Findings, due: bool) -> Reply
+        ensures { result ≡ gap_reply self (gap_fill self (facts m)) (answered (facts m)) due }
     {
-        if due {
-            let reply = Reply::Two(fill, Say::Resend(self.e));
-            return self.asking().settled(Outcome::Gap, reply);
+        match (m.is_answered(), due) {
+            (true, true) => Reply::Two(self.gap_fill(m), Say::Resend(self.e)),
+            (true, false) => Reply::One(self.gap_fill(m)),
+            (false, true) => Reply::One(Say::Resend(self.e)),
+            (false, false) => Reply::Nothing,
         }
-        self.settled(Outcome::Gap, Reply::One(fill))
     }
 
-    fn gap_seen(self, due: bool) -> Judged
-        ensures { result ≡ judged outcome.Gap (gap_reply self say.Logout false due) (cond due (asking self) self) }
-    {
-        if due {
-            let reply = Reply::One(Say::Resend(self.e));
-            return self.asking().settled(Outcome::Gap, reply);
-        }
-        self.settled(Outcome::Gap, Reply::Nothing)
-    }
-
-    // "type 4 without `123=Y` ignores its number".
-    fn is_turn(self, n: u32, m: Findings) -> bool
-        ensures { result ≡ (reset_mode (facts m) || eqb n self.e) }
-    {
-        if is_reset(m) {
-            return true;
-        }
-        n == self.e
-    }
-
-    // Step 4, in phase 2 or 4.
+    // Step 4, in phase 2 or 4: "type 4 without `123=Y` ignores its number".
+    #[tactic(auto, unfolding(crate::specs::Judging::step4))]
     fn judge_turn(self, n: u32, m: Findings) -> Verdict
         ensures { result ≡ step4 self n (facts m) }
     {
-        if self.is_turn(n, m) {
+        if m.is_reset() || n == self.e {
             return self.in_turn(n, m);
         }
         if n < self.e {
@@ -371,47 +303,29 @@ impl Session {
 
     // Steps 3 and 4, by phase. A message in phase 0 or 3 is refused before it comes to this. Each step is called in one place, so that it is compiled
     // in place and copies no struct.
+    #[tactic(auto, unfolding(crate::specs::Judging::by_phase))]
     fn by_phase(self, n: u32, m: Findings) -> Verdict
         ensures { result ≡ by_phase self.phase self n (facts m) }
     {
-        let phase = self.phase;
-        match phase {
-            Phase::Out => self.dropped(),
+        match self.phase {
+            Phase::Out | Phase::Ended => self.dropped(),
             Phase::Sent => Verdict::Settled(self.judge_logon(n, m)),
-            Phase::Ended => self.dropped(),
             Phase::In | Phase::Closing => self.judge_turn(n, m),
         }
     }
 
     // "A framed message is judged in this order".
+    #[tactic(auto, unfolding(crate::specs::Judging::judged_by))]
     pub fn judge(self, m: Findings) -> Verdict
         ensures { result ≡ judged_by self (facts m) }
     {
-        let n = m.seq;
-        if n == 0 {
+        let Some(n) = m.seq else {
             return Verdict::Settled(self.ended());
+        };
+        match m.ids {
+            Err(f) => Verdict::Settled(self.rejected_ended(n, f)),
+            Ok(()) => self.by_phase(n, m),
         }
-        let ids = m.ids;
-        match ids {
-            Judgement::Faulty(f) => Verdict::Settled(self.rejected_ended(n, f)),
-            Judgement::Fine => self.by_phase(n, m),
-        }
-    }
-}
-
-// Whether a message repeats the 112 of the Test Request that it answers.
-fn echoes(say: Say) -> bool
-    ensures { result ≡ echoes say }
-{
-    match say {
-        Say::Logon => false,
-        Say::Heartbeat => false,
-        Say::Echo => true,
-        Say::Test => false,
-        Say::Logout => false,
-        Say::Resend(_) => false,
-        Say::Reject(_, _) => false,
-        Say::GapFill(_, _) => false,
     }
 }
 
@@ -420,8 +334,7 @@ pub fn word_tag(reply: Reply) -> u32
     ensures { result ≡ word_tag reply }
 {
     match reply {
-        Reply::Nothing => tags::TYPE,
-        Reply::One(a) => if echoes(a) { tags::WORD } else { tags::TYPE },
-        Reply::Two(_, _) => tags::TYPE,
+        Reply::One(Say::Echo) => tags::WORD,
+        _ => tags::TYPE,
     }
 }

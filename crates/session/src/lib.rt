@@ -5,20 +5,19 @@ mod judging;
 mod own_calls;
 mod reading;
 
-use answer::{Kind, Outcome, Phase};
+use answer::{Fault, Kind, Outcome, Phase};
 pub use judging::word_tag;
 pub use own_calls::says;
 pub use reading::findings_of;
-use table::Judgement;
 use wire::Reply;
 
-// The phase, the number expected, the next to send, and the E that a Resend Request was last written for (0 for none).
+// The phase, the number expected, the next to send, and the E that a Resend Request was last written for.
 #[derive(Clone, Copy)]
 pub struct Session {
     pub phase: Phase,
     pub e: u32,
     pub o: u32,
-    pub asked: u32,
+    pub asked: Option<u32>,
 }
 
 // Our own calls: open, heartbeat, test request, close.
@@ -46,14 +45,14 @@ pub enum Verdict {
     Correction(u32),
 }
 
-// What the steps read off a message: its type, its number (0 where it has none), which ID is not the agreed one, what is wrong by steps 5 to 7,
+// What the steps read off a message: its type, its number, where it has one, which ID is not the agreed one, what is wrong by steps 5 to 7,
 // `43=Y`, `123=Y`, and the numbers of 7, 16 and 36.
 #[derive(Clone, Copy)]
 pub struct Findings {
     pub kind: Kind,
-    pub seq: u32,
-    pub ids: Judgement,
-    pub fault: Judgement,
+    pub seq: Option<u32>,
+    pub ids: Result<(), Fault>,
+    pub fault: Result<(), Fault>,
     pub again: bool,
     pub filling: bool,
     pub from: u32,

@@ -1,7 +1,6 @@
 // The session by value, and our own calls: each method hands back the next session.
 ghost use Rattle.std.specs.Prelude.{◌≡◌};
-ghost use Rattle.session.specs.declared.Own.TheVariants as own;
-ghost use Rattle.session.specs.Session.{fresh, into, expecting, asking, raised, sending, is_off, is_on, is_in, says, may_call, own_call, line_lost};
+ghost use Rattle.session.specs.Session.{fresh, into, expecting, asking, raised, sending, is_off, is_on, is_in, says, may_call, phase_after, own_call, line_lost};
 
 use super::{Own, Session};
 use answer::{Phase, count_on};
@@ -19,6 +18,17 @@ pub fn says(what: Own) -> Say
     }
 }
 
+// "open (.. Logon with 98=0 and 108=30; phase 1), heartbeat, test request .., close (Logout; phase 4), the last three in phase 2".
+fn phase_after(what: Own) -> Phase
+    ensures { result ≡ phase_after what }
+{
+    match what {
+        Own::Open => Phase::Sent,
+        Own::Beat | Own::Ask => Phase::In,
+        Own::Close => Phase::Closing,
+    }
+}
+
 impl Session {
     // "fresh: phase 0, E = O = 1".
     pub fn fresh() -> Session
@@ -28,31 +38,20 @@ impl Session {
             phase: Phase::Out,
             e: 1,
             o: 1,
-            asked: 0,
+            asked: None,
         }
     }
 
     pub(crate) fn into(self, phase: Phase) -> Session
         ensures { result ≡ into phase self }
     {
-        Session {
-            phase,
-            e: self.e,
-            o: self.o,
-            asked: self.asked,
-        }
+        Session { phase, ..self }
     }
 
     pub(crate) fn expecting(self, e: u32) -> Session
         ensures { result ≡ expecting e self }
     {
-        let phase = self.phase;
-        Session {
-            phase,
-            e,
-            o: self.o,
-            asked: self.asked,
-        }
+        Session { e, ..self }
     }
 
     // "raises E by 1".
@@ -66,12 +65,9 @@ impl Session {
     pub(crate) fn asking(self) -> Session
         ensures { result ≡ asking self }
     {
-        let phase = self.phase;
         Session {
-            phase,
-            e: self.e,
-            o: self.o,
-            asked: self.e,
+            asked: Some(self.e),
+            ..self
         }
     }
 
@@ -79,12 +75,9 @@ impl Session {
     pub(crate) fn sending(self, reply: Reply) -> Session
         ensures { result ≡ sending reply self }
     {
-        let phase = self.phase;
         Session {
-            phase,
-            e: self.e,
             o: count_on(self.o, wire::used_by(reply)),
-            asked: self.asked,
+            ..self
         }
     }
 
@@ -92,14 +85,7 @@ impl Session {
     pub fn is_off(self) -> bool
         ensures { result ≡ is_off self.phase }
     {
-        let phase = self.phase;
-        match phase {
-            Phase::Out => true,
-            Phase::Sent => false,
-            Phase::In => false,
-            Phase::Ended => true,
-            Phase::Closing => false,
-        }
+        matches!(self.phase, Phase::Out | Phase::Ended)
     }
 
     // "a message needs 1, 2 or 4".
@@ -113,14 +99,7 @@ impl Session {
     pub(crate) fn is_in(self) -> bool
         ensures { result ≡ is_in self.phase }
     {
-        let phase = self.phase;
-        match phase {
-            Phase::Out => false,
-            Phase::Sent => false,
-            Phase::In => true,
-            Phase::Ended => false,
-            Phase::Closing => false,
-        }
+        self.phase == Phase::In
     }
 
     // "open (phase 0 or 3 ..), heartbeat, test request .., close .., the last three in phase 2".
@@ -129,48 +108,16 @@ impl Session {
     {
         match what {
             Own::Open => self.is_off(),
-            Own::Beat => self.is_in(),
-            Own::Ask => self.is_in(),
-            Own::Close => self.is_in(),
+            Own::Beat | Own::Ask | Own::Close => self.is_in(),
         }
     }
 
-    // "open (phase 0 or 3; Logon with 98=0 and 108=30; phase 1)". "Each uses one O."
-    pub fn open(self) -> Session
-        ensures { result ≡ own_call own.Open self }
-    {
-        self.into(Phase::Sent).sending(Reply::One(Say::Logon))
-    }
-
-    pub fn heartbeat(self) -> Session
-        ensures { result ≡ own_call own.Beat self }
-    {
-        self.into(Phase::In).sending(Reply::One(Say::Heartbeat))
-    }
-
-    pub fn test_request(self) -> Session
-        ensures { result ≡ own_call own.Ask self }
-    {
-        self.into(Phase::In).sending(Reply::One(Say::Test))
-    }
-
-    // "close (Logout; phase 4)".
-    pub fn close(self) -> Session
-        ensures { result ≡ own_call own.Close self }
-    {
-        self.into(Phase::Closing).sending(Reply::One(Say::Logout))
-    }
-
-    // The session after one of our own calls.
+    // The session after one of our own calls: "each uses one O".
+    #[tactic(auto, unfolding(crate::specs::Session::own_call))]
     pub fn own(self, what: Own) -> Session
         ensures { result ≡ own_call what self }
     {
-        match what {
-            Own::Open => self.open(),
-            Own::Beat => self.heartbeat(),
-            Own::Ask => self.test_request(),
-            Own::Close => self.close(),
-        }
+        self.into(phase_after(what)).sending(Reply::One(says(what)))
     }
 
     // "Line lost (phase 1, 2 or 4) gives phase 0 and writes nothing".

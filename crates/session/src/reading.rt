@@ -1,9 +1,8 @@
-// What the steps read off a message, by its body's index: once, and the steps look at nothing else.
-ghost use Rattle.std.specs.Prelude.{◌≡◌};
-ghost use Rattle.std.proofs.Math.Option.{some};
-ghost use Rattle.octet.specs.Bytes.{same};
+// What the steps read off a message, by a look at its body: once, and the steps look at nothing else.
+ghost use Rattle.std.specs.Prelude.{◌≡◌, cond};
+ghost use Rattle.std.proofs.Math.Option.{none, some};
 ghost use Rattle.field.specs.Pieces.{is_that};
-ghost use Rattle.field.specs.Look.{look_in, first};
+ghost use Rattle.field.specs.Look.{seen_by, first};
 ghost use Rattle.table.specs.Rows.{kind_by};
 ghost use Rattle.table.specs.Steps.{found};
 ghost use Rattle.answer.specs.Setup.{id_of};
@@ -11,95 +10,72 @@ ghost use Rattle.answer.specs.Numbers.{fault, wrong_id};
 ghost use Rattle.session.specs.Reading.{seq_given, ids_given, yes, facts_of, numbered, facts};
 
 use super::{Findings, Session};
-use answer::{Fault, Id, Kind, LAST_SEQUENCE, Setup, reasons, tags};
-use field::{Index, Scan, count_at, value_at};
-use table::{Given, Judgement, number_at};
-use value::Number;
+use answer::{Fault, Id, LAST_SEQUENCE, Setup, reasons, tags};
+use field::{Look, Unsound};
+use table::{Given, number_at};
 
-// Whether an agreed ID is a value.
-fn is_id(id: Id, v: &[u8]) -> bool
-    ensures { result ≡ same (id_of id) v.now }
+// Whether the first field of a tag is a text.
+fn is_first(look: Look, tag: u32, text: &[u8]) -> bool
+    ensures { result ≡ is_that text.now (first (seen_by look.entry) tag) }
 {
-    let b = id.bytes;
-    octet::same(octet::part(&b, 0, id.len), v)
+    look.count(tag) != 0 && octet::same(text, look.value(tag))
 }
 
-// Whether the first field of a tag is an agreed ID.
-fn has_id(body: &[u8], index: &Index, tag: u32, id: Id) -> bool
-    ensures { result ≡ is_that (id_of id) (first (look_in body.now index.now) tag) }
+// Whether it is Y.
+fn is_yes(look: Look, tag: u32) -> bool
+    ensures { result ≡ yes (first (seen_by look.entry) tag) }
 {
-    if count_at(body, index, tag) == 0 {
-        return false;
-    }
-    is_id(id, value_at(body, index, tag))
+    is_first(look, tag, b"Y")
 }
 
-// Whether the first field of a tag is Y.
-fn is_yes(body: &[u8], index: &Index, tag: u32) -> bool
-    ensures { result ≡ yes (first (look_in body.now index.now) tag) }
+// Step 1: "The first `34=` field is 1 to 999,999,998, 1 to 9 digits".
+fn sequence(look: Look) -> Option<u32>
+    ensures { numbered result ≡ seq_given (first (seen_by look.entry) 34) }
 {
-    if count_at(body, index, tag) == 0 {
-        return false;
+    if look.count(tags::SEQUENCE) == 0 {
+        return None;
     }
-    octet::same(b"Y", value_at(body, index, tag))
+    value::read_number(look.value(tags::SEQUENCE), 1, LAST_SEQUENCE).ok()
 }
 
-// Step 1: "The first `34=` field is 1 to 999,999,998, 1 to 9 digits"; 0 where it is not.
-fn sequence(body: &[u8], index: &Index) -> u32
-    ensures { numbered result ≡ seq_given (first (look_in body.now index.now) 34) }
+// "Else Reject 9 naming that tag".
+fn agreed(look: Look, tag: u32, id: Id) -> Result<(), Fault>
+    ensures { found result ≡ cond (is_that (id_of id) (first (seen_by look.entry) tag)) none (some (fault wrong_id tag)) }
 {
-    if count_at(body, index, tags::SEQUENCE) == 0 {
-        return 0;
-    }
-    match value::read_number(value_at(body, index, tags::SEQUENCE), 1, LAST_SEQUENCE) {
-        Number::Value(n) => n,
-        Number::BadForm(_) => 0,
-        Number::OutOfRange => 0,
+    if is_first(look, tag, octet::part(&id.bytes, 0, id.len)) {
+        Ok(())
+    } else {
+        Err(Fault::of(reasons::WRONG_ID, tag))
     }
 }
 
-// Step 2: "The first `49=` and then `56=` are the agreed IDs. Else Reject 9 naming that tag".
-fn ids_fault(setup: Setup, body: &[u8], index: &Index) -> Judgement
-    ensures { found result ≡ ids_given setup (first (look_in body.now index.now) 49) (first (look_in body.now index.now) 56) }
+// Step 2: "The first `49=` and then `56=` are the agreed IDs".
+fn ids_fault(setup: Setup, look: Look) -> Result<(), Fault>
+    ensures { found result ≡ ids_given setup (first (seen_by look.entry) 49) (first (seen_by look.entry) 56) }
 {
-    if !has_id(body, index, tags::SENDER, setup.theirs()) {
-        return wrong_id(tags::SENDER);
-    }
-    if !has_id(body, index, tags::TARGET, setup.ours()) {
-        return wrong_id(tags::TARGET);
-    }
-    Judgement::Fine
-}
-
-fn wrong_id(tag: u32) -> Judgement
-    ensures { found result ≡ some (fault wrong_id tag) }
-{
-    Judgement::Faulty(Fault::of(reasons::WRONG_ID, tag))
-}
-
-// The type of a message.
-fn kind_in(setup: Setup, body: &[u8], index: &Index) -> Kind
-    ensures { result ≡ kind_by setup (look_in body.now index.now) }
-{
-    table::kind_of(setup, value_at(body, index, tags::TYPE))
+    agreed(look, tags::SENDER, setup.theirs())?;
+    agreed(look, tags::TARGET, setup.ours())
 }
 
 // All of it.
-pub fn findings_of(setup: Setup, s: Session, body: &[u8], scan: Scan, index: &Index) -> Findings
-    ensures { facts result ≡ facts_of setup s scan (look_in body.now index.now) }
+#[tactic(auto, unfolding(crate::specs::Reading::facts_of))]
+pub fn findings_of(setup: Setup, s: Session, look: Look, scan: Result<(), Unsound>) -> Findings
+    ensures { facts result ≡ facts_of setup s scan (seen_by look.entry) }
 {
-    let phase = s.phase;
-    let given = Given { phase, o: s.o };
-    let kind = kind_in(setup, body, index);
+    let given = Given {
+        phase: s.phase,
+        o: s.o,
+    };
+    let kind = table::kind_of(setup, look.value(tags::TYPE));
     Findings {
         kind,
-        seq: sequence(body, index),
-        ids: ids_fault(setup, body, index),
-        fault: table::fault_in(setup, given, kind, body, scan, index),
-        again: is_yes(body, index, tags::AGAIN),
-        filling: is_yes(body, index, tags::FILLING),
-        from: number_at(body, index, tags::FROM),
-        last: number_at(body, index, tags::UP_TO),
-        to: number_at(body, index, tags::TO),
+        seq: sequence(look),
+        ids: ids_fault(setup, look),
+        fault: table::fault_in(setup, given, kind, look, scan),
+        again: is_yes(look, tags::AGAIN),
+        filling: is_yes(look, tags::FILLING),
+        from: number_at(look, tags::FROM),
+        last: number_at(look, tags::UP_TO),
+        to: number_at(look, tags::TO),
     }
 }

@@ -1,5 +1,5 @@
 use mathlib.Core.Path.{◌≡◌}
-use Prim.Native.Nat.{◌+◌, ◌-◌, ◌≤◌}
+use Prim.Native.Nat.{◌+◌, ◌≤◌}
 use lib.ListN.{drop}
 use Rattle.book.specs.Memory.{slots_in}
 use Rattle.book.specs.Orders.{fills_of}
@@ -7,6 +7,3 @@ use Rattle.listing.proofs.count_from.Given as goal
 
 abbrev pub invariant-loop-i : goal.invariant-loop-i
 invariant-loop-i l = (l.fills + fills_of (drop l.i (slots_in l.last l.book)) ≡ fills_of (drop l.from (slots_in l.last l.book))) × (l.fills ≤ l.i)
-
-abbrev pub decreases-loop-i : goal.decreases-loop-i
-decreases-loop-i l = l.last - l.i

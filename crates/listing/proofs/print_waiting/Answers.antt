@@ -1,12 +1,8 @@
 -- `listing::print_waiting` meets its contract: the first line and then the others.
-use mathlib.Core.Path.{sym, ap₂, ◌∙◌}
-use Prim.Native.Nat.{ℕ, ◌≤◌}
 use native.Mathlib.Omega.{arith}
-use lib.ListN.{length, drop}
-use mathlib.Core.Path.{subst}
-use Rattle.octet.specs.Splice.{splice}
+use lib.ListN.{drop}
 use Rattle.book.specs.Memory.{slots_in}
-use Rattle.listing.specs.Listing.{first_line, waiting_page, lines_in}
+use Rattle.listing.specs.Listing.{first_line, lines_in}
 use Rattle.listing.proofs.Pages.{headed, page-whole}
 use Rattle.listing.proofs.print_waiting.Goals as goal
 
@@ -15,12 +11,10 @@ put_lines-requires c =
     let a = c.args in
     let page = a.page.now in
     let book = a.book.now in
-    let ef = c.size-last.ensures in
-    let ek = c.size-acked.ensures in
-    let f = c.size-last.result in
-    let k = c.size-acked.result in
+    let f = a.m.last in
+    let k = a.m.acked in
     let pre = c.requires in
-    let room = subst (λ (n : ℕ). n ≤ length page) (ap₂ (λ (x y : ℕ). length (waiting_page y (slots_in x book))) (sym ef) (sym ek)) pre.2 in
+    let room = pre.2 in
     let n = c.count_from-fills.ensures in
     let u = c.sum_from-sum.ensures in
     let p = c.place-end.ensures in
@@ -35,12 +29,10 @@ returns c =
     let a = c.args in
     let page = a.page.now in
     let book = a.book.now in
-    let ef = c.size-last.ensures in
-    let ek = c.size-acked.ensures in
-    let f = c.size-last.result in
-    let k = c.size-acked.result in
+    let f = a.m.last in
+    let k = a.m.acked in
     let pre = c.requires in
-    let room = subst (λ (n : ℕ). n ≤ length page) (ap₂ (λ (x y : ℕ). length (waiting_page y (slots_in x book))) (sym ef) (sym ek)) pre.2 in
+    let room = pre.2 in
     let n = c.count_from-fills.ensures in
     let u = c.sum_from-sum.ensures in
     let p = c.place-end.ensures in
@@ -49,5 +41,4 @@ returns c =
     let x = c.first_text.ensures in
     let g = headed f k _ _ _ book page _ _ (omega arith) (omega arith) room n u.0 u.1 x p.dst_after p.value in
     let l = c.put_lines.ensures in
-    let w = page-whole page _ _ (first_line (drop k (slots_in f book))) (lines_in k f book) _ _ room g.0 g.1 l.0 l.1 in
-    (w.0 ∙ ap₂ (λ (x y : ℕ). splice page 0 (waiting_page y (slots_in x book))) ef ek, w.1 ∙ ap₂ (λ (x y : ℕ). length (waiting_page y (slots_in x book))) ef ek)
+    page-whole page _ _ (first_line (drop k (slots_in f book))) (lines_in k f book) _ _ room g.0 g.1 l.0 l.1

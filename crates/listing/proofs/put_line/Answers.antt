@@ -12,4 +12,4 @@ returns c =
     let w = c.write_line-len.ensures in
     let l = line_of a.n a.slot.now in
     let len = line-length (replicate 128 0) l _ w.line_bound w.value in
-    (c.copy_into.ensures.1 ∙ ap (splice a.page.now a.at) (written_back (replicate 128 0) l _ _ _ w.line_bound w.line_after len c.part.ensures), len)
+    (c.copy_into.ensures.1 ∙ ap (splice a.page.now a.at) (written_back (replicate 128 0) l _ _ w.line_bound w.line_after len), len)

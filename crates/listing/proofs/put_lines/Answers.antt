@@ -1,5 +1,5 @@
 -- `listing::put_lines` meets its contract: the lines so far stand there, and the others are to come.
-use mathlib.Core.Path.{ap, ◌∙◌}
+use mathlib.Core.Path.{refl, ap, ◌∙◌}
 use native.Mathlib.Omega.{arith}
 use lib.ListN.{length}
 use Rattle.octet.proofs.Lists.{splice-length}
@@ -15,7 +15,7 @@ pub overflow_add-end : goal.overflow_add-end
 overflow_add-end c =
     let a = c.args in
     let h = c.loop-i in
-    let g = lined-turn a.page.now a.book.now h.page _ a.at a.from a.last h.end h.i _ _ _ c.requires.1 h.invariant (omega arith) c.narrow.ensures c.slot_at.ensures c.put_line-end.ensures.0 c.put_line-end.ensures.1 in
+    let g = lined-turn a.page.now a.book.now h.page _ a.at a.from a.last h.end h.i _ _ _ c.requires.1 h.invariant (omega arith) refl c.slot_at.ensures c.put_line-end.ensures.0 c.put_line-end.ensures.1 in
     let f = g.1 in
     omega (arith, c.requires.1)
 
@@ -23,7 +23,7 @@ pub loop-i-preserved : goal.loop-i-preserved
 loop-i-preserved c =
     let a = c.args in
     let h = c.loop-i in
-    let g = lined-turn a.page.now a.book.now h.page _ a.at a.from a.last h.end h.i _ _ _ c.requires.1 h.invariant (omega arith) c.narrow.ensures c.slot_at.ensures c.put_line-end.ensures.0 c.put_line-end.ensures.1 in
+    let g = lined-turn a.page.now a.book.now h.page _ a.at a.from a.last h.end h.i _ _ _ c.requires.1 h.invariant (omega arith) refl c.slot_at.ensures c.put_line-end.ensures.0 c.put_line-end.ensures.1 in
     g.0
 
 pub shape_of-page : goal.shape_of-page

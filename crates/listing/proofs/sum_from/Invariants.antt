@@ -9,6 +9,3 @@ use Rattle.listing.proofs.sum_from.Given as goal
 abbrev pub invariant-loop-i : goal.invariant-loop-i
 invariant-loop-i l =
     (l.sum + contracts (drop l.i (slots_in l.last l.book)) ≡ contracts (drop l.from (slots_in l.last l.book))) × (l.sum + (l.last - l.i) * largest ≤ most_slots * largest)
-
-abbrev pub decreases-loop-i : goal.decreases-loop-i
-decreases-loop-i l = l.last - l.i

@@ -1,8 +1,0 @@
--- `session::Session::gap_filled` meets its contract.
-use Rattle.session.proofs.Session.gap_filled.Goals as goal
-
-pub returns-then-due : goal.returns-then-due
-returns-then-due c = rw (c.settled.ensures, c.asking.ensures, c.if-due.true)
-
-pub returns : goal.returns
-returns c = rw (c.settled-2.ensures, c.if-due.false)
