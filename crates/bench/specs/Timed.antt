@@ -1,5 +1,5 @@
 -- What is timed: a receiver that is on, given by its numbers, and what a caller in C is told of a call, as numbers.
-use Rattle.std.specs.Prelude.{ℕ, ◌+◌, ◌*◌, ◌%◌, ◌≡◌, List, ◌++◌, length, drop}
+use Rattle.std.specs.Prelude.{ℕ, ◌+◌, ◌*◌, ◌%◌, ◌≡◌, List, ◌++◌, length, drop, None}
 use Rattle.std.proofs.Math.Option.{Option, none, some}
 use Rattle.answer.specs.declared.Setup.{Setup}
 use Rattle.answer.specs.declared.Phase.TheVariants.{In}
@@ -39,7 +39,7 @@ load_of fills orders entries = record { fills = fills; orders = orders; entries 
 -- phase 2, E as given, nothing written yet; so many fills of one contract each, of so many orders, and entries, none acknowledged and so many offered
 abbrev pub online : ℕ → Load → ℕ → Stored
 online e load offered = record {
-  session = record { phase = In; e = e; o = 1; asked = 0 };
+  session = record { phase = In; e = e; o = 1; asked = None };
   marks = record { last = counted load.fills load.entries; load = load; acked = 0; offered = offered; day = load.fills };
 }
 

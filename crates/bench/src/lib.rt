@@ -79,7 +79,7 @@ fn online(e: u32, load: Load, offered: u32) -> State
             phase: Phase::In,
             e,
             o: 1,
-            asked: 0,
+            asked: None,
         },
         marks: Marks {
             last: answer::count_on(load.fills, load.entries),

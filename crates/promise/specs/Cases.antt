@@ -1,5 +1,5 @@
 -- "Worked by hand (P is proved)": the paper's cases, as one table under one statement; and a table of places of request C-14.
-use Rattle.std.specs.Prelude.{ℕ, ◌≡◌, List, [], ◌∷◌, ◌++◌, Bool, true, false, cond, length}
+use Rattle.std.specs.Prelude.{ℕ, ◌≡◌, List, [], ◌∷◌, ◌++◌, Bool, true, false, cond, length, None}
 use Prim.Native.String.{String}
 use Rattle.std.proofs.Math.Option.{Option, none, some}
 use Rattle.octet.specs.Bytes.{bytes_of}
@@ -41,7 +41,7 @@ abbrev pub agreed : Setup
 agreed = record { ours = id_with (bytes_of "FIRM"); theirs = id_with (bytes_of "SPHR") }
 
 abbrev pub within : ℕ → ℕ → State
-within e o = record { phase = In; asked = 0; offered = 0; kept = record { e = e; o = o; slots = []; rows = []; load = no_load; acked = 0; day = 0 } }
+within e o = record { phase = In; asked = None; offered = 0; kept = record { e = e; o = o; slots = []; rows = []; load = no_load; acked = 0; day = 0 } }
 
 abbrev pub worked : ℕ → ℕ → List ℕ → Did
 worked e o text =
