@@ -11,6 +11,7 @@ use lib.ListN.{length, take, drop, get_or, length-append, length-drop, length-ta
 use lib.Seq.{take-append-le, drop-append-le, take-suc, get_or-drop}
 use lib.Dec.{leb, ltb, eqb}
 use borrow.Author.Tests.{ltb-false, leb-false, eqb-true, eqb-false, eq-eqb, lt-ltb, le-leb}
+use Rattle.std.specs.Prelude.{Ok, Err}
 use Rattle.octet.specs.Maybe.{or_else, first, is_none}
 use Rattle.octet.proofs.Cases.{of-cond, contrary, and_both, and-fails, or_left, or_right, bool_case}
 use Rattle.answer.specs.Numbers.{nine_digits, last_to_send}
@@ -37,7 +38,7 @@ use Rattle.book.specs.declared.Placed.TheVariants as placed
 use Rattle.note.specs.Notes.{Raises, Acks, Clears}
 use Rattle.note.specs.Kept.{Kept, empty, bookable, lawful, after}
 use Rattle.report.specs.Report.{report_in, reported_in, slot_in, rule_fault}
-use Rattle.report.specs.declared.Reported.{Reported}
+use Rattle.report.specs.Report.{Reporting}
 use Rattle.report.specs.declared.Reported.TheVariants as reported
 use Rattle.report.proofs.Kept.{fill-told}
 use Rattle.report.proofs.Lawful as fills
@@ -264,14 +265,14 @@ module _ (setup : Setup) (st : State) (time s : List ℕ) (safe : Safe st.kept) 
   acts-placed len ps n f (placed.Clash g) l law e =
       acts-rejected len ps n g l
 
-  acts-ruled : (len : ℕ) (ps : Pieces) (n : ℕ) (r : Reported) → reported_in ps ≡ r → st.kept.e < nine_digits
+  acts-ruled : (len : ℕ) (ps : Pieces) (n : ℕ) (r : Reporting) → reported_in ps ≡ r → st.kept.e < nine_digits
       → (rule_fault (report_in ps) ≡ none → Lawful (slot_in ps)) → Acts st (Message time s) (carried_out setup st time len ps (becomes st (of_report (session_of st) (look_of ps) n r)))
   unfolding carried_out becomes of_report
-  acts-ruled len ps n (reported.Faulty f) e l law =
+  acts-ruled len ps n (Err f) e l law =
       acts-rejected len ps n f l
-  acts-ruled len ps n reported.Aside e l law =
+  acts-ruled len ps n (Ok reported.Aside) e l law =
       acts-passed len ps outcome.Aside l refl
-  acts-ruled len ps n reported.Fill e l law =
+  acts-ruled len ps n (Ok reported.Fill) e l law =
       acts-placed len ps n (slot_in ps) (place st.kept.slots st.kept.rows (slot_in ps)) l (law (fill-told (look_of ps) e).0) refl
 
   acts-judged : (len : ℕ) → found_in s ≡ found.Framed len → (v : Verdict) → judge setup (session_of st) (pieces_of (body_in len s)) ≡ v

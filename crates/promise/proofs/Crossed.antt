@@ -9,6 +9,7 @@ use mathlib.Core.Bool.{Bool, true, false, cond, not}
 use native.Mathlib.Omega.{arith}
 use lib.Dec.{eqb}
 use borrow.Author.Tests.{eq-eqb, le-leb}
+use Rattle.std.specs.Prelude.{Ok, Err}
 use Rattle.octet.specs.Bytes.{between, is}
 use Rattle.octet.specs.Maybe.{is_none, or_else}
 use Rattle.octet.proofs.Cases.{contrary}
@@ -41,7 +42,7 @@ use Rattle.note.proofs.Keeping.{lawful-books, bookable-facts}
 use Rattle.report.specs.Report.{Report as Values, is_crossed, unless_kept, rule_fault, is_aside, after_rules, reported_of, report_of, report_in, reported_in, slot_in}
 use Rattle.report.specs.Crossed.{former_fault}
 use Rattle.report.specs.Noted.{Tells, IsFill}
-use Rattle.report.specs.declared.Reported.{Reported}
+use Rattle.report.specs.Report.{Reporting}
 use Rattle.report.specs.declared.Reported.TheVariants as reported
 use Rattle.report.proofs.Kept.{rules-kept, fill-keeps, aside-is}
 use Rattle.report.proofs.Crossed.{difference}
@@ -158,7 +159,7 @@ module _ (setup : Setup) (st : State) (ps : Pieces) where
 module _ (setup : Setup) (st : State) (ps : Pieces) (type : kind_in setup ps ≡ kind.Report)
     (one : is "1" (text_at 39 ps) ≡ false) (two : is "2" (text_at 39 ps) ≡ false) (four : is "4" (text_at 39 ps) ≡ false) where
   -- a fill has 39 equal to 150, which is 1 or 2, or 4
-  no-fill : (n : ℕ) → judge setup (session_of st) ps ≡ Report n → reported_in ps ≡ reported.Fill → ⊥
+  no-fill : (n : ℕ) → judge setup (session_of st) ps ≡ Report n → reported_in ps ≡ Ok reported.Fill → ⊥
   unfolding report_of
   no-fill n e f =
       let kept = fill-keeps ps f in
@@ -172,12 +173,12 @@ module _ (setup : Setup) (st : State) (ps : Pieces) (type : kind_in setup ps ≡
       (λ x. contrary (ap (is "4") x.status) four)
       kept.rest
 
-  by-reported : (n : ℕ) → judge setup (session_of st) ps ≡ Report n → (r : Reported) → reported_in ps ≡ r
+  by-reported : (n : ℕ) → judge setup (session_of st) ps ≡ Report n → (r : Reporting) → reported_in ps ≡ r
       → (j : Judged) × (of_report (session_of st) (look_of ps) n r ≡ Nothing j)
   unfolding of_report
-  by-reported n e (reported.Faulty f) k = (_, refl)
-  by-reported n e reported.Aside k = (_, refl)
-  by-reported n e reported.Fill k = absurd (no-fill n e k)
+  by-reported n e (Err f) k = (_, refl)
+  by-reported n e (Ok reported.Aside) k = (_, refl)
+  by-reported n e (Ok reported.Fill) k = absurd (no-fill n e k)
 
   brought : (v : Verdict) → judge setup (session_of st) ps ≡ v → (j : Judged) × (brought_by (session_of st) (look_of ps) v ≡ Nothing j)
   unfolding brought_by
