@@ -4,6 +4,7 @@
 --     framed-fine, garbled-fine     for `8=FIX.4.2|`
 --     found_none     no bytes: More
 --     answered-framed, answered-garbled     the verdict behind an answer
+use Rattle.std.specs.Prelude.{Ok, Err}
 use mathlib.Core.Path.{◌≡◌, refl, subst, ap}
 use mathlib.Core.List.{List, [], ◌∷◌, ◌++◌}
 use mathlib.Core.Bool.{◌&&◌}
@@ -16,28 +17,27 @@ use Rattle.octet.specs.Bytes.{bytes_of, between, agree, part}
 use Rattle.octet.proofs.Cases.{of-cond, and_left}
 use Rattle.octet.proofs.Lists.{agree-none, between-low, between-high}
 use Rattle.text.specs.Decimal.{digit_run, digits, check_sum}
-use Rattle.frame.specs.Finding.{to_agree, skip_of, body_ok, trailer_of, answered, opening, judge_whole, judge_length, judge_digits, judge_opening, found_by, found_in}
+use Rattle.frame.specs.Finding.{Standing, to_agree, skip_of, body_ok, trailer_of, answered, opening, judge_whole, judge_length, judge_digits, judge_opening, found_by, found_in}
 use Rattle.frame.specs.declared.Found.TheVariants.{More, Garbled, Framed}
-use Rattle.frame.specs.declared.Standing.{Standing}
-use Rattle.frame.specs.declared.Standing.TheVariants.{Short, Failed, Whole}
+use Rattle.frame.specs.declared.Unframed.TheVariants.{Short, Failed}
 use Rattle.frame.proofs.Steps.{digits-past}
 
 -- ---- the verdict behind an answer
-pub answered-framed : (v : Standing) (p n : ℕ) → answered v p ≡ Framed n → v ≡ Whole n
-answered-framed Short p n e = cc
-answered-framed Failed p n e = cc
-answered-framed (Whole m) p n e = cc
+pub answered-framed : (v : Standing) (p n : ℕ) → answered v p ≡ Framed n → v ≡ Ok n
+answered-framed (Err Short) p n e = cc
+answered-framed (Err Failed) p n e = cc
+answered-framed (Ok m) p n e = cc
 
-pub answered-garbled : (v : Standing) (p q : ℕ) → answered v p ≡ Garbled q → (v ≡ Failed) × (p ≡ q)
-answered-garbled Short p q e = (cc, cc)
-answered-garbled Failed p q e = (cc, cc)
-answered-garbled (Whole m) p q e = (cc, cc)
+pub answered-garbled : (v : Standing) (p q : ℕ) → answered v p ≡ Garbled q → (v ≡ Err Failed) × (p ≡ q)
+answered-garbled (Err Short) p q e = (cc, cc)
+answered-garbled (Err Failed) p q e = (cc, cc)
+answered-garbled (Ok m) p q e = (cc, cc)
 
 -- ---- a whole message lies within the k bytes, and is 16 to 4,086 bytes longer than the opening of w bytes
 abbrev Within : ℕ → ℕ → Standing → Type 0
-Within w k Short = Unit {0}
-Within w k Failed = Unit {0}
-Within w k (Whole n) = (w + 16 ≤ n) × (n ≤ w + 4086) × (n ≤ k)
+Within w k (Err Short) = Unit {0}
+Within w k (Err Failed) = Unit {0}
+Within w k (Ok n) = (w + 16 ≤ n) × (n ≤ w + 4086) × (n ≤ k)
 
 module _ (w : ℕ) (s : List ℕ) where
   whole-within : (at n : ℕ) → w + 4 ≤ at → at ≤ w + 7 → 5 ≤ n → n ≤ 4072 → Within w (length s) (judge_whole at n s)
@@ -73,7 +73,7 @@ judge-within o s =
     of-cond (Within (length o) (length s)) (agree (o ++ bytes_of "9=") s) (λ e. digits-within (length o) s (length o + 2) refl) (λ e. tt)
 
 -- ---- no bytes: nothing failed
-none-short : (o : List ℕ) → judge_opening o [] ≡ Short
+none-short : (o : List ℕ) → judge_opening o [] ≡ Err Short
 unfolding judge_opening
 none-short o = rw (agree-none (o ++ bytes_of "9=")) (digits-past (length o + 2) [] zero-le)
 
@@ -82,7 +82,7 @@ to_agree-le o [] = zero-le
 to_agree-le o (x ∷ s) =
     of-cond (λ (k : ℕ). k ≤ suc (length s)) (agree o (x ∷ s)) (λ e. zero-le) (λ e. suc-le-suc (to_agree-le o s))
 
-skip-fine : (o s : List ℕ) → judge_opening o s ≡ Failed → (1 ≤ skip_of o s) × (skip_of o s ≤ length s)
+skip-fine : (o s : List ℕ) → judge_opening o s ≡ Err Failed → (1 ≤ skip_of o s) × (skip_of o s ≤ length s)
 unfolding skip_of
 skip-fine o [] e = let z : ◌≡◌ {A = ℕ} 0 1 = cc (none-short o) in absurd (omega arith)
 skip-fine o (x ∷ s) e = let l = to_agree-le o s in (omega arith, omega arith)

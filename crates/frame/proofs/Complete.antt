@@ -1,6 +1,7 @@
 -- A message that is put together as the paper says is framed at its length, whatever follows it, and its body is found in it.
 --     before, message     the parts of a message, one after another
 --     complete, body-found     over any opening, and any 1 to 4 digits that write the body's length
+use Rattle.std.specs.Prelude.{Ok}
 use mathlib.Core.Path.{◌≡◌, refl, sym, ◌∙◌}
 use mathlib.Core.List.{List, ◌∷◌, ◌++◌, append_assoc}
 use mathlib.Core.Bool.{true}
@@ -14,7 +15,6 @@ use Rattle.octet.proofs.Lists.{agree-self, run-before, is-between}
 use Rattle.text.specs.Decimal.{digits, digit_run, check_sum}
 use Rattle.frame.specs.Finding.{body_ok, trailer_of, judge_whole, judge_length, judge_digits, judge_opening, found_by, body_by}
 use Rattle.frame.specs.declared.Found.TheVariants.{Framed}
-use Rattle.frame.specs.declared.Standing.TheVariants.{Whole}
 
 -- 1 to 4 digits that write the length of a body, and the body
 pub record Parts (ds b : List ℕ) : Type 0 where
@@ -77,7 +77,7 @@ module _ (o ds b rest : List ℕ) (p : Parts ds b) where
   abbrev s : List ℕ
   s = before o ds b ++ tail
 
-  whole-found : judge_whole (begin o ds) (length b) s ≡ Whole (begin o ds + length b + 7)
+  whole-found : judge_whole (begin o ds) (length b) s ≡ Ok (begin o ds + length b + 7)
   unfolding judge_whole
   whole-found =
       let l = length-all o ds b tail in
@@ -91,11 +91,11 @@ module _ (o ds b rest : List ℕ) (p : Parts ds b) where
         agree-self (trailer_of (check_sum (before o ds b))) rest,
       )
 
-  length_found : judge_length (begin o ds) (length b) s ≡ Whole (begin o ds + length b + 7)
+  length_found : judge_length (begin o ds) (length b) s ≡ Ok (begin o ds + length b + 7)
   unfolding judge_length
   length_found = rw (is-between 5 4072 (length b) p.low p.high) whole-found
 
-  digits-found : judge_digits (length o + 2) s ≡ Whole (begin o ds + length b + 7)
+  digits-found : judge_digits (length o + 2) s ≡ Ok (begin o ds + length b + 7)
   unfolding judge_digits
   digits-found =
       let l = length-all o ds b tail in
@@ -111,7 +111,7 @@ module _ (o ds b rest : List ℕ) (p : Parts ds b) where
       )
       length_found
 
-  judge-found : judge_opening o s ≡ Whole (begin o ds + length b + 7)
+  judge-found : judge_opening o s ≡ Ok (begin o ds + length b + 7)
   unfolding judge_opening
   judge-found =
       let e : agree (o ++ bytes_of "9=") s ≡ true =

@@ -1,5 +1,6 @@
 -- What has failed stays failed, whatever bytes come after; only the skip may change, since it goes over all bytes.
 --     garbled-longer     over any opening
+use Rattle.std.specs.Prelude.{Ok, Err}
 use mathlib.Core.Path.{◌≡◌, refl, sym, subst, ap}
 use mathlib.Core.Logic.{⊎_elim}
 use mathlib.Core.List.{List, [], ◌∷◌, ◌++◌}
@@ -15,10 +16,9 @@ use Rattle.octet.specs.Bytes.{bytes_of, between, agree, part}
 use Rattle.octet.proofs.Cases.{of-cond, le-or-lt}
 use Rattle.octet.proofs.Lists.{part-first, run-most}
 use Rattle.text.specs.Decimal.{digit_run, digits, check_sum}
-use Rattle.frame.specs.Finding.{body_ok, trailer_of, skip_of, answered, judge_whole, judge_length, judge_digits, judge_opening, found_by}
+use Rattle.frame.specs.Finding.{Standing, body_ok, trailer_of, skip_of, answered, judge_whole, judge_length, judge_digits, judge_opening, found_by}
 use Rattle.frame.specs.declared.Found.TheVariants.{Garbled}
-use Rattle.frame.specs.declared.Standing.{Standing}
-use Rattle.frame.specs.declared.Standing.TheVariants.{Short, Failed, Whole}
+use Rattle.frame.specs.declared.Unframed.TheVariants.{Short, Failed}
 use Rattle.frame.proofs.Agree.{agree-longer, agree-differs}
 use Rattle.frame.proofs.Bounds.{answered-garbled}
 use Rattle.frame.proofs.Steps.{digits-past}
@@ -42,23 +42,23 @@ digit_run-more (b ∷ u) t = go (between 48 57 b) (digit_run-more u t)
 
 -- a verdict that is Failed is so later
 abbrev Stays : Standing → Standing → Type 0
-Stays Short w = Unit {0}
-Stays Failed w = w ≡ Failed
-Stays (Whole n) w = Unit {0}
+Stays (Err Short) w = Unit {0}
+Stays (Err Failed) w = w ≡ Err Failed
+Stays (Ok n) w = Unit {0}
 
 stays : (v w : Standing) → w ≡ v → Stays v w
-stays Short w e = tt
-stays Failed w e = e
-stays (Whole n) w e = tt
+stays (Err Short) w e = tt
+stays (Err Failed) w e = e
+stays (Ok n) w e = tt
 
-or-fail : (a : Bool) (v w : Standing) → Stays v w → Stays (cond a v Failed) (cond a w Failed)
+or-fail : (a : Bool) (v w : Standing) → Stays v w → Stays (cond a v (Err Failed)) (cond a w (Err Failed))
 or-fail true v w h = h
 or-fail false v w h = refl
 
 -- what `judge_whole` says of a message that is there
 abbrev rest : ℕ → ℕ → List ℕ → Standing
 rest at n s =
-    cond (body_ok (part at n s) && agree (trailer_of (check_sum (take (at + n) s))) (drop (at + n) s)) (Whole (at + n + 7)) Failed
+    cond (body_ok (part at n s) && agree (trailer_of (check_sum (take (at + n) s))) (drop (at + n) s)) (Ok (at + n + 7)) (Err Failed)
 
 module _ (s t : List ℕ) where
   longer : length (s ++ t) ≡ length s + length t
@@ -134,6 +134,6 @@ module _ (s t : List ℕ) where
 pub garbled-longer : (o s t : List ℕ) (p : ℕ) → found_by o s ≡ Garbled p → found_by o (s ++ t) ≡ Garbled (skip_of o (s ++ t))
 unfolding found_by
 garbled-longer o s t p e =
-    let h : judge_opening o s ≡ Failed = (answered-garbled (judge_opening o s) (skip_of o s) p e).0 in
-    let f : judge_opening o (s ++ t) ≡ Failed = subst (λ (v : Standing). Stays v (judge_opening o (s ++ t))) h (judge-stays s t o) in
+    let h : judge_opening o s ≡ Err Failed = (answered-garbled (judge_opening o s) (skip_of o s) p e).0 in
+    let f : judge_opening o (s ++ t) ≡ Err Failed = subst (λ (v : Standing). Stays v (judge_opening o (s ++ t))) h (judge-stays s t o) in
     ap (λ (v : Standing). answered v (skip_of o (s ++ t))) f

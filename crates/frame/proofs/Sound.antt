@@ -1,6 +1,7 @@
 -- Whatever is framed was put together as the paper says, and its body is what `body_by` finds.
 --     sound     a framed message's parts, and what follows it
 --     framed-alone, framed-longer, body-longer     the bytes after a framed message are not looked at
+use Rattle.std.specs.Prelude.{Ok, Err}
 use mathlib.Core.Path.{◌≡◌, refl, sym, ◌∙◌, subst, ap, ap₂}
 use mathlib.Core.List.{List, [], ◌++◌, append_assoc, append-nil}
 use mathlib.Core.Bool.{true, ◌&&◌}
@@ -15,10 +16,9 @@ use Rattle.octet.specs.Bytes.{bytes_of, between, all_in, agree, part}
 use Rattle.octet.proofs.Cases.{of-cond, and_both}
 use Rattle.octet.proofs.Lists.{agree-begins, length_part, between-low, between-high, run_in_lem}
 use Rattle.text.specs.Decimal.{digit_run, digits, check_sum}
-use Rattle.frame.specs.Finding.{body_ok, trailer_of, skip_of, judge_whole, judge_length, judge_digits, judge_opening, found_by, body_by}
+use Rattle.frame.specs.Finding.{Standing, body_ok, trailer_of, skip_of, judge_whole, judge_length, judge_digits, judge_opening, found_by, body_by}
 use Rattle.frame.specs.declared.Found.TheVariants.{Framed}
-use Rattle.frame.specs.declared.Standing.{Standing}
-use Rattle.frame.specs.declared.Standing.TheVariants.{Short, Failed, Whole}
+use Rattle.frame.specs.declared.Unframed.TheVariants.{Short, Failed}
 use Rattle.frame.proofs.Bounds.{answered-framed, framed-by-fine}
 use Rattle.frame.proofs.Complete.{Parts, before, message, complete, body-found}
 
@@ -27,9 +27,9 @@ agree-take o s h e = ap (take (length o)) (agree-begins o s h e) ∙ take_at o (
 
 -- the first k bytes are a message, where the verdict is that k bytes are one
 abbrev Put : List ℕ → List ℕ → Standing → Type 0
-Put o s Short = Unit {0}
-Put o s Failed = Unit {0}
-Put o s (Whole k) = (ds : List ℕ) × (b : List ℕ) × Parts ds b × (take k s ≡ message o ds b)
+Put o s (Err Short) = Unit {0}
+Put o s (Err Failed) = Unit {0}
+Put o s (Ok k) = (ds : List ℕ) × (b : List ℕ) × Parts ds b × (take k s ≡ message o ds b)
 
 -- digits that could be a length's
 record Digits (ds : List ℕ) : Type 0 where
@@ -105,7 +105,7 @@ pub record Made (o s : List ℕ) (n : ℕ) : Type 0 where
   pub whole : s ≡ message o ds (body_by o n s) ++ rest
   pub size : n ≡ length (message o ds (body_by o n s))
 
-made : (o s : List ℕ) (n : ℕ) → n ≤ length s → Put o s (Whole n) → Made o s n
+made : (o s : List ℕ) (n : ℕ) → n ≤ length s → Put o s (Ok n) → Made o s n
 made o s n h w =
     let ds = w.0 in
     let b = w.1 in

@@ -1,11 +1,15 @@
 -- "Finding a message", over any opening.
-use Rattle.std.specs.Prelude.{ℕ, suc, ◌+◌, ◌-◌, List, [], ◌∷◌, ◌++◌, Bool, cond, ◌&&◌, length, get_or, take, drop, ltb, leb, eqb}
+use Rattle.std.specs.Prelude.{ℕ, suc, ◌+◌, ◌-◌, List, [], ◌∷◌, ◌++◌, Bool, cond, ◌&&◌, length, get_or, take, drop, ltb, leb, eqb, Result, Ok, Err}
 use Rattle.octet.specs.Bytes.{bytes_of, between, agree, until_byte, part}
 use Rattle.text.specs.Decimal.{digit_run, digits, fixed, check_sum}
 use Rattle.frame.specs.declared.Found.{Found}
 use Rattle.frame.specs.declared.Found.TheVariants.{More, Garbled, Framed}
-use Rattle.frame.specs.declared.Standing.{Standing}
-use Rattle.frame.specs.declared.Standing.TheVariants.{Short, Failed, Whole}
+use Rattle.frame.specs.declared.Unframed.{Unframed}
+use Rattle.frame.specs.declared.Unframed.TheVariants.{Short, Failed}
+
+-- what the judging of the bytes comes to, before the skip is looked for: a message's length, or why there is none
+abbrev pub Standing : Type 0
+Standing = Result ℕ Unframed
 
 -- "`8=FIX.4.2|`"
 abbrev pub opening : List ℕ
@@ -38,12 +42,12 @@ body_ok b = agree (bytes_of "35=") b && type_ok (drop 3 b) && eqb (get_or b (len
 -- "the rest when the whole message is there": a body of n bytes from `at` on, and the trailer
 unfoldable pub judge_whole : ℕ → ℕ → List ℕ → Standing
 judge_whole at n s =
-    cond (ltb (length s) (at + n + trailer_width)) Short
-    (cond (body_ok (part at n s) && agree (trailer_of (check_sum (take (at + n) s))) (drop (at + n) s)) (Whole (at + n + trailer_width)) Failed)
+    cond (ltb (length s) (at + n + trailer_width)) (Err Short)
+    (cond (body_ok (part at n s) && agree (trailer_of (check_sum (take (at + n) s))) (drop (at + n) s)) (Ok (at + n + trailer_width)) (Err Failed))
 
 -- "BodyLength is 5 to 4,072": the length's value n, where the body begins at `at`
 unfoldable pub judge_length : ℕ → ℕ → List ℕ → Standing
-judge_length at n s = cond (between 5 4072 n) (judge_whole at n s) Failed
+judge_length at n s = cond (between 5 4072 n) (judge_whole at n s) (Err Failed)
 
 -- "(the length's value once its `|` is there)"
 abbrev pub judge_value : ℕ → ℕ → List ℕ → Standing
@@ -53,19 +57,23 @@ judge_value at d s = judge_length (at + d + 1) (digits (part at d s)) s
 unfoldable pub judge_digits : ℕ → List ℕ → Standing
 judge_digits at s =
     let d = digit_run (drop at s) in
-    cond (ltb 4 d) Failed
-    (cond (leb (length s) (at + d)) Short
-    (cond (leb 1 d && eqb (get_or s (at + d) 0) 1) (judge_value at d s) Failed))
+    cond (ltb 4 d) (Err Failed)
+    (cond (leb (length s) (at + d)) (Err Short)
+    (cond (leb 1 d && eqb (get_or s (at + d) 0) 1) (judge_value at d s) (Err Failed)))
+
+-- s begins with o, as far as bytes have come
+abbrev pub begun : List ℕ → List ℕ → Result (Unit {0}) Unframed
+begun o s = cond (agree o s) (cond (leb (length o) (length s)) (Ok tt) (Err Short)) (Err Failed)
 
 -- "The opening and length field are judged as far as bytes have come"
 unfoldable pub judge_opening : List ℕ → List ℕ → Standing
-judge_opening o s = cond (agree (o ++ bytes_of "9=") s) (judge_digits (length o + 2) s) Failed
+judge_opening o s = cond (agree (o ++ bytes_of "9=") s) (judge_digits (length o + 2) s) (Err Failed)
 
 -- "Nothing failed and bytes missing: More. Failed: Garbled, with a skip"
 abbrev pub answered : Standing → ℕ → Found
-answered Short p = More
-answered Failed p = Garbled p
-answered (Whole n) p = Framed n
+answered (Err Short) p = More
+answered (Err Failed) p = Garbled p
+answered (Ok n) p = Framed n
 
 unfoldable pub found_by : List ℕ → List ℕ → Found
 found_by o s = answered (judge_opening o s) (skip_of o s)

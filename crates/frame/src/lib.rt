@@ -3,7 +3,7 @@
 #![tactic(auto)]
 
 ghost use Rattle.std.specs.Prelude.{◌≡◌, ◌≤◌, length};
-ghost use Rattle.frame.specs.Finding.{skip_of, trailer_of, body_ok, judge_whole, judge_length, judge_digits, judge_opening, found_by, found_in, body_by, body_in};
+ghost use Rattle.frame.specs.Finding.{skip_of, trailer_of, type_ok, body_ok, judge_whole, judge_length, judge_digits, begun, judge_opening, found_by, found_in, body_by, body_in};
 
 use answer::BAR;
 
@@ -15,16 +15,15 @@ pub enum Found {
     Framed(usize),
 }
 
-// What the judging of the bytes comes to, before the skip is looked for.
-#[derive(Clone, Copy)]
-pub enum Standing {
+// Why no message stands at the front: bytes are missing and nothing failed, or something failed.
+#[derive(Clone, Copy, PartialEq, Eq)]
+enum Unframed {
     Short,
     Failed,
-    Whole(usize),
 }
 
 // "`8=FIX.4.2|`".
-pub const OPENING: [u8; 10] = [b'8', b'=', b'F', b'I', b'X', b'.', b'4', b'.', b'2', BAR];
+pub const OPENING: [u8; 10] = *b"8=FIX.4.2\x01";
 
 // "1 to 4 digits"; "BodyLength is 5 to 4,072"; the trailer is `10=`, three digits, `|`.
 const MOST_DIGITS: usize = 4;
@@ -35,25 +34,19 @@ const MOST_BODY: usize = 4072;
 
 const TRAILER_WIDTH: usize = 7;
 
-// The least p of 1 or more such that the bytes of s from p on agree with o as far as both go.
+// The least p of 1 or more such that the bytes of s from p on agree with o as far as both go. The first byte is asked by itself: it differs nearly always.
 fn skip(o: &[u8], s: &[u8]) -> usize
     ensures { result ≡ skip_of o.now s.now }
 {
-    let mut p = 1;
-    let found = 'search: loop {
-        let mut i = 0;
-        'compare: loop {
-            if o.len() <= i || s.len() <= p + i {
-                break 'search p;
-            }
-            if o[i] != s[p + i] {
-                break 'compare;
-            }
-            i += 1;
-        }
-        p += 1;
+    let [first, ..] = o else {
+        return 1;
     };
-    found
+    for p in 1..s.len() {
+        if s[p] == *first && octet::agree(o, &s[p..]) {
+            return p;
+        }
+    }
+    s.len().max(1)
 }
 
 // The last field of a message whose bytes before it sum to c.
@@ -71,112 +64,106 @@ fn trailer(c: u8) -> [u8; TRAILER_WIDTH]
     ]
 }
 
+// Whether what follows begins with 1 to 3 bytes and `|`.
+fn type_ok(t: &[u8]) -> bool
+    ensures { result ≡ type_ok t.now }
+{
+    let k = octet::until(t, BAR);
+    1 <= k && k <= 3 && k < t.len()
+}
+
 // Whether a body begins `35=`, 1 to 3 bytes, `|`, and ends with `|`.
+#[tactic(auto, using(crate::proofs::Steps::rests), unfolding(crate::specs::Finding::body_ok))]
 fn body_ok(b: &[u8]) -> bool
     requires { 5 ≤ length b.now }
     ensures { result ≡ body_ok b.now }
 {
-    if !octet::agree(b"35=", b) {
-        return false;
-    }
-    let t = &b[3..];
-    let k = octet::until(t, BAR);
-    if k < 1 {
-        return false;
-    }
-    if 3 < k {
-        return false;
-    }
-    if t.len() <= k {
-        return false;
-    }
-    b[b.len() - 1] == BAR
+    octet::agree(b"35=", b) && type_ok(&b[3..]) && b[b.len() - 1] == BAR
 }
 
 // The rest when the whole message is there: a body of n bytes from `at` on, and the trailer.
-fn judge_whole(s: &[u8], at: usize, n: usize) -> Standing
+fn judge_whole(s: &[u8], at: usize, n: usize) -> Result<usize, Unframed>
     requires { (at ≤ length s.now) × ((5 ≤ n) × (n ≤ 4072)) }
     ensures { result ≡ judge_whole at n s.now }
 {
     let end = at + n;
     if s.len() < end + TRAILER_WIDTH {
-        return Standing::Short;
+        return Err(Unframed::Short);
     }
     if !body_ok(&s[at..end]) {
-        return Standing::Failed;
+        return Err(Unframed::Failed);
     }
     let t = trailer(text::byte_sum(&s[..end]));
     if !octet::agree(&t, &s[end..]) {
-        return Standing::Failed;
+        return Err(Unframed::Failed);
     }
-    Standing::Whole(end + TRAILER_WIDTH)
+    Ok(end + TRAILER_WIDTH)
 }
 
 // The length's value n, where the body begins at `at`.
-fn judge_length(s: &[u8], at: usize, n: usize) -> Standing
+#[tactic(auto, unfolding(crate::specs::Finding::judge_length))]
+fn judge_length(s: &[u8], at: usize, n: usize) -> Result<usize, Unframed>
     requires { at ≤ length s.now }
     ensures { result ≡ judge_length at n s.now }
 {
-    if n < LEAST_BODY {
-        return Standing::Failed;
+    match n {
+        LEAST_BODY..=MOST_BODY => judge_whole(s, at, n),
+        _ => Err(Unframed::Failed),
     }
-    if MOST_BODY < n {
-        return Standing::Failed;
-    }
-    judge_whole(s, at, n)
 }
 
 // The length's digits from `at` on, and the `|` after them. A fifth digit fails at once, so no more than five are read.
-fn judge_digits(s: &[u8], at: usize) -> Standing
+fn judge_digits(s: &[u8], at: usize) -> Result<usize, Unframed>
     requires { at ≤ length s.now }
     ensures { result ≡ judge_digits at s.now }
 {
     let d = text::read_digits(&s[at..], MOST_DIGITS + 1);
     let width = d.len;
     if MOST_DIGITS < width {
-        return Standing::Failed;
+        return Err(Unframed::Failed);
     }
     let end = at + width;
     if s.len() <= end {
-        return Standing::Short;
+        return Err(Unframed::Short);
     }
-    if width < 1 {
-        return Standing::Failed;
-    }
-    if s[end] != BAR {
-        return Standing::Failed;
+    if width == 0 || s[end] != BAR {
+        return Err(Unframed::Failed);
     }
     judge_length(s, end + 1, d.value as usize)
 }
 
-// The opening o and the length's tag, as far as bytes have come, and what follows them.
-fn judge_opening(o: &[u8], s: &[u8]) -> Standing
-    ensures { result ≡ judge_opening o.now s.now }
+// That s begins with o, as far as bytes have come.
+fn begins(o: &[u8], s: &[u8]) -> Result<(), Unframed>
+    ensures { result ≡ begun o.now s.now }
 {
     if !octet::agree(o, s) {
-        return Standing::Failed;
+        return Err(Unframed::Failed);
     }
-    let at = o.len();
-    if s.len() < at {
-        return Standing::Short;
+    if s.len() < o.len() {
+        return Err(Unframed::Short);
     }
-    if !octet::agree(b"9=", &s[at..]) {
-        return Standing::Failed;
-    }
-    if s.len() < at + 2 {
-        return Standing::Short;
-    }
-    judge_digits(s, at + 2)
+    Ok(())
+}
+
+// The opening o and the length's tag, as far as bytes have come, and what follows them.
+#[tactic(auto, using(crate::proofs::Steps::openings))]
+fn judge_opening(o: &[u8], s: &[u8]) -> Result<usize, Unframed>
+    ensures { result ≡ judge_opening o.now s.now }
+{
+    begins(o, s)?;
+    begins(b"9=", &s[o.len()..])?;
+    judge_digits(s, o.len() + 2)
 }
 
 // What stands at the front of s, where a message opens with o.
+#[tactic(auto, unfolding(crate::specs::Finding::found_by))]
 pub fn find_by(o: &[u8], s: &[u8]) -> Found
     ensures { result ≡ found_by o.now s.now }
 {
     match judge_opening(o, s) {
-        Standing::Short => Found::More,
-        Standing::Failed => Found::Garbled(skip(o, s)),
-        Standing::Whole(n) => Found::Framed(n),
+        Err(Unframed::Short) => Found::More,
+        Err(Unframed::Failed) => Found::Garbled(skip(o, s)),
+        Ok(n) => Found::Framed(n),
     }
 }
 
@@ -192,14 +179,9 @@ pub fn body_by<'o, 's>(o: &'o [u8], s: &'s [u8], length: usize) -> &'s [u8]
     ensures { result.now ≡ body_by o.now length s.now }
 {
     let at = o.len() + 2;
-    if s.len() <= at {
-        return &s[..0];
-    }
-    let begin = at + octet::run_in(&s[at..], b'0', b'9') + 1;
-    if length < begin + TRAILER_WIDTH {
-        return &s[..0];
-    }
-    octet::part(s, begin, length - TRAILER_WIDTH - begin)
+    let rest = &s[at.min(s.len())..];
+    let begin = at + octet::run_in(rest, b'0', b'9') + 1;
+    octet::part(s, begin, length.saturating_sub(begin + TRAILER_WIDTH))
 }
 
 // The body of the message of that length at the front of s.

@@ -49,9 +49,6 @@ length_part at n s h = length-take-le n (drop at s) (omega (arith, length-drop a
 pub part-most : (at n : ℕ) (s : List ℕ) → length (part at n s) ≤ n
 part-most at n s = rw length-take (min-le_left n (length (drop at s)))
 
-pub part-short : {t : List ℕ} (at n : ℕ) (s : List ℕ) → t ≡ part at n s → length t ≤ n
-part-short at n s e = rw e (part-most at n s)
-
 -- a part that is whole, and one that is not
 pub part-whole : {t : List ℕ} (at n : ℕ) (s : List ℕ) → t ≡ part at n s → 0 < n → length t ≡ n → at + n ≤ length s
 part-whole at n s e h l = omega (arith, rw e at l, length-take n (drop at s), length-drop at s)
@@ -237,7 +234,20 @@ pub until-most : (b : ℕ) (s : List ℕ) → until_byte b s ≤ length s
 until-most b [] = omega arith
 until-most b (x ∷ s) = of-cond (λ (n : ℕ). n ≤ suc (length s)) (eqb x b) (λ e. omega arith) (λ e. omega (arith, until-most b s))
 
--- where `contains` finds none, the first b stands further on
+-- as a fold asks whether there is none
+none-from : (b : ℕ) (t : Bool) (s : List ℕ) → fold (λ (none : Bool) (x : ℕ). none && not (eqb x b)) t s ≡ t && not (list_any (λ (x : ℕ). eqb x b) s)
+none-from b t [] = sym (and-true t)
+none-from b t (x ∷ s) = none-from b (t && not (eqb x b)) s ∙ apart t (eqb x b) (list_any (λ (y : ℕ). eqb y b) s)
+  where
+    apart : (t p q : Bool) → (t && not p) && not q ≡ t && not (p || q)
+    apart true true q = refl
+    apart true false q = refl
+    apart false p q = refl
+
+pub none-fold : (b : ℕ) (s : List ℕ) → fold (λ (none : Bool) (x : ℕ). none && not (eqb x b)) true s ≡ not (list_any (λ (x : ℕ). eqb x b) s)
+none-fold b s = none-from b true s
+
+-- where there is none, the first b stands further on
 until-none : (b : ℕ) (s : List ℕ) → list_any (λ (x : ℕ). eqb x b) s ≡ false → until_byte b s ≡ length s
 until-none b [] e = refl
 until-none b (x ∷ s) e =
@@ -260,9 +270,13 @@ until-from b (suc i) (x ∷ s) h =
     of-cond (λ (n : ℕ). suc i ≤ n → n ≡ suc i + until_byte b (drop i s)) (eqb x b)
     (λ e g. absurd (omega arith)) (λ e g. omega (arith, until-from b i s (omega arith))) h
 
-pub until-past : (b n : ℕ) (s : List ℕ) → n ≤ length s → list_any (λ (x : ℕ). eqb x b) (take n s) ≡ false → until_byte b s ≡ n + until_byte b (drop n s)
+not-true : (p : Bool) → not p ≡ true → p ≡ false
+not-true true e = sym e
+not-true false e = refl
+
+pub until-past : (b n : ℕ) (s : List ℕ) → n ≤ length s → not (list_any (λ (x : ℕ). eqb x b) (take n s)) ≡ true → until_byte b s ≡ n + until_byte b (drop n s)
 until-past b n s h e =
-    let u : until_byte b (take n s) ≡ n = until-none b (take n s) e ∙ length-take-le n s h in
+    let u : until_byte b (take n s) ≡ n = until-none b (take n s) (not-true (list_any (λ (x : ℕ). eqb x b) (take n s)) e) ∙ length-take-le n s h in
     until-from b n s (omega (arith, until-take b n s))
 
 -- the count, where `position` gave it
@@ -534,23 +548,6 @@ splice-over d at s t e =
     ∙ sym (splice-in d at t h))
     (λ h. ap (λ (l : List ℕ). splice l at t) (splice-out d at s (omega arith)))
     (le-or-lt (at + length t) (length d))
-
--- what is written in front of what is written
-pub splice_front : (d : List ℕ) (at : ℕ) (s t : List ℕ) → at + length s + length t ≤ length d → splice (splice d (at + length s) t) at s ≡ splice d at (s ++ t)
-splice_front d at s t h =
-    let m = splice d (at + length s) t in
-    let e : at + length (s ++ t) ≡ at + length s + length t = simp length-append (omega arith) in
-    let l : length m ≡ length d = splice-length d (at + length s) t in
-    let rest : drop (at + length s) m ≡ t ++ drop (at + length s + length t) d =
-    ap (drop (at + length s)) (splice-in d (at + length s) t h ∙ append_assoc (take (at + length s) d) t (drop (at + length s + length t) d))
-    ∙ drop_at (take (at + length s) d) (t ++ drop (at + length s + length t) d) (at + length s) (length-take-le (at + length s) d (omega arith)) in
-    splice-in m at s (omega (arith, l))
-    ∙ ap (λ (l : List ℕ). l ++ s ++ drop (at + length s) m) (splice-before d (at + length s) t at (omega arith))
-    ∙ ap (λ (l : List ℕ). take at d ++ s ++ l) rest
-    ∙ sym (append_assoc (take at d ++ s) t (drop (at + length s + length t) d))
-    ∙ ap (λ (l : List ℕ). l ++ drop (at + length s + length t) d) (append_assoc (take at d) s t)
-    ∙ ap (λ (n : ℕ). take at d ++ (s ++ t) ++ drop n d) (sym e)
-    ∙ sym (splice-in d at (s ++ t) (subst (λ (n : ℕ). n ≤ length d) (sym e) h))
 
 -- a store is a write of one byte
 pub set-splice : (d : List ℕ) (i x : ℕ) → set d i x ≡ splice d i (x ∷ [])

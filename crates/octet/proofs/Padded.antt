@@ -12,7 +12,7 @@ use borrow.Author.Tests.{le-leb, lt-leb, leb-true}
 use Rattle.octet.specs.Bytes.{between, all_in, same, part}
 use Rattle.octet.specs.Splice.{splice}
 use Rattle.octet.specs.Padded.{fits_width, padded, PutsPadded, text_of, padded_ok}
-use Rattle.octet.proofs.Cases.{and_both, and_left, and_right, and-make, and-no-left, and-no-right, bool-ext}
+use Rattle.octet.proofs.Cases.{and_both, and_left, and_right, and-make, and-no-left, bool-ext}
 use Rattle.octet.proofs.Lists.{is-between, between-low, between-high, same_true, same_of, fits-true, fits-false, set-splice, splice-join, splice-out, splice-read}
 
 -- ---- fits_width
@@ -21,9 +21,6 @@ fits_width_lem width t h b = and-make (leb (length t + 1) width) (leb (length t)
 
 pub unfit-width : (width : ℕ) (t : List ℕ) → width ≤ length t → fits_width width t ≡ false
 unfit-width width t h = and-no-left (leb (length t + 1) width) (leb (length t) 255) (lt-leb (length t + 1) width (omega arith))
-
-pub unfit-byte : (width : ℕ) (t : List ℕ) → 255 < length t → fits_width width t ≡ false
-unfit-byte width t h = and-no-right (leb (length t + 1) width) (leb (length t) 255) (lt-leb (length t) 255 h)
 
 pub fits-room : (width : ℕ) (t : List ℕ) → fits_width width t ≡ true → length t < width
 fits-room width t e = omega (arith, leb-true (length t + 1) width (and_left (leb (length t + 1) width) (leb (length t) 255) e))

@@ -2,7 +2,8 @@
 // and texts with a length byte and zero padding.
 #![tactic(auto)]
 
-ghost use Rattle.std.specs.Prelude.{◌≡◌, ◌+◌, ◌-◌, ◌≤◌, ◌++◌, length, get_or, replicate, leb};
+ghost use Rattle.std.specs.List.{list_any};
+ghost use Rattle.std.specs.Prelude.{◌==◌, not, ◌≡◌, ◌+◌, ◌-◌, ◌≤◌, ◌++◌, length, get_or, replicate, leb};
 ghost use Rattle.octet.specs.Bytes.{same, agree, part, until_byte, run_in, all_in};
 ghost use Rattle.octet.specs.Places.{word_at, high, big_endian};
 ghost use Rattle.octet.specs.Splice.{splice, fits_at};
@@ -58,16 +59,23 @@ pub fn until(s: &[u8], b: u8) -> usize
 // So many bytes are compared at once.
 const MANY: usize = 16;
 
+// Whether none of many bytes is b. There is no way out before the last, so that the compiler compares them at once. `contains` would be a call each time,
+// wherever other code calls it too.
+fn none_of(s: &[u8], b: u8) -> bool
+    ensures { result ≡ not (list_any (λ x. x == b) s.now) }
+{
+    s.iter().fold(true, |none, x| none & (*x != b))
+}
+
 // How many bytes stand before the first b, where these may be many: as long as none of them is b they are passed over many at once.
 pub fn until_far(s: &[u8], b: u8) -> usize
     ensures { result ≡ until_byte b s.now }
 {
     let mut rest = s;
-    while let Some((many, after)) = rest.split_first_chunk::<MANY>() {
-        if many.contains(&b) {
-            break;
-        }
-        rest = after;
+    while let Some(many) = rest.first_chunk::<MANY>()
+        && none_of(many, b)
+    {
+        rest = &rest[MANY..];
     }
     s.len() - rest.len() + until(rest, b)
 }
@@ -81,7 +89,7 @@ pub fn run_in(s: &[u8], low: u8, high: u8) -> usize
         .unwrap_or(s.len())
 }
 
-// Whether many bytes are of low to high, compared at once.
+// Whether many bytes are of low to high, compared at once: again with no way out before the last.
 fn many_in(s: &[u8], low: u8, high: u8) -> bool
     ensures { result ≡ all_in low high s.now }
 {

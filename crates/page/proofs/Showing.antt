@@ -4,6 +4,7 @@ use mathlib.Core.List.{List, [], ◌∷◌, ◌++◌, map}
 use Prim.Native.Nat.{ℕ, zero, suc, ◌+◌, ◌≤◌, ◌<◌}
 use lib.ListN.{length, drop, get_or}
 use lib.Seq.{drop-cons}
+use lib.ListN.{drop_of_length-le}
 use native.Mathlib.Omega.{arith}
 use borrow.Author.Tests.{lt-ltb, le-ltb}
 use mathlib.Core.Logic.{inl, inr}
@@ -65,15 +66,6 @@ told-refused m lent why e =
 
 -- ---- the rows
 
-drop_past : {A : Type 0} (xs : List A) (i : ℕ) → length xs ≤ i → drop i xs ≡ []
-drop_past xs zero h = nothing xs h
-  where
-    nothing : {A : Type 0} (xs : List A) → length xs ≤ 0 → xs ≡ []
-    nothing [] h = refl
-    nothing (x ∷ xs) h = absurd (omega arith)
-drop_past [] (suc i) h = refl
-drop_past (x ∷ xs) (suc i) h = drop_past xs i (omega arith)
-
 -- as many as there are orders: each of the book's rows, as the page has it
 module _ (m : Marks) (book : List ℕ) where
   abbrev stored : List Row
@@ -81,7 +73,7 @@ module _ (m : Marks) (book : List ℕ) where
 
   rows-from : (k i : ℕ) → i + k ≡ length stored → rows_from m book i k ≡ map (row_as (slots_in m.last book)) (drop i stored)
   unfolding rows_from row_of
-  rows-from zero i e = ap (map (row_as (slots_in m.last book))) (sym (drop_past stored i (omega arith)))
+  rows-from zero i e = ap (map (row_as (slots_in m.last book))) (sym (drop_of_length-le stored (omega arith)))
   rows-from (suc k) i e =
       ap (λ (l : List OrderRow). row_as (slots_in m.last book) (get_or stored i []) ∷ l) (rows-from k (suc i) (omega arith))
       ∙ ap (map (row_as (slots_in m.last book))) (sym (drop-cons stored i [] (omega arith)))

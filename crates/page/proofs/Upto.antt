@@ -1,15 +1,16 @@
 -- The rows while a page is written.
 --     upto marks book i ys     the first i rows are the page's, and the rest are ys's
 --     rows_more        one row more at a page's end
---     upto-none        none is written.        upto-more        row i is put.        length-upto      the length stays.        upto_all         what a page of n leaves
+--     upto-none        none is written.        upto-more        row i is put.        length-upto      the length stays.        upto-front       what a page of n leaves
 -- Assumes nothing.
 use mathlib.Core.Path.{◌≡◌, refl, sym, ◌∙◌, ap}
 use Prim.Native.Nat.{ℕ, zero, suc, ◌+◌, ◌≤◌, ◌<◌}
 use native.Mathlib.Nat.{zero-add}
 use native.Mathlib.Numerals.{add-one}
 use native.Mathlib.Omega.{arith}
-use mathlib.Core.List.{List, ◌∷◌, ◌++◌}
-use lib.ListN.{length, drop, set, get_or, length-append, length-drop}
+use mathlib.Core.List.{List, ◌∷◌, ◌++◌, append-nil}
+use lib.ListN.{drop_of_length-le}
+use lib.ListN.{length, take, drop, set, get_or, length-append, length-take, length-drop}
 use lib.Seq.{drop-cons, set_at}
 use Rattle.queue.specs.declared.Marks.{Marks}
 use Rattle.page.specs.declared.OrderRow.{OrderRow}
@@ -46,6 +47,8 @@ upto-more m b i ys h =
     ap (λ (n : ℕ). page_of m b i ++ (row_of m b n ∷ drop (suc i) ys)) (sym (zero-add i)) ∙ rows_more m b 0 i (drop (suc i) ys) ∙
     ap (λ (n : ℕ). page_of m b n ++ drop n ys) (sym (add-one i))
 
-pub upto_all : (m : Marks) (b : List ℕ) (n : ℕ) (ys : List OrderRow) → upto m b n ys ≡ page_of m b n ++ drop n ys
+pub upto-front : (m : Marks) (b : List ℕ) (n : ℕ) (ys : List OrderRow) → n ≤ length ys → upto m b n (take n ys) ++ drop n ys ≡ page_of m b n ++ drop n ys
 unfolding upto
-upto_all m b n ys = refl
+upto-front m b n ys h =
+    ap (λ (l : List OrderRow). page_of m b n ++ l ++ drop n ys) (drop_of_length-le (take n ys) (simp length-take (omega arith)))
+    ∙ ap (λ (l : List OrderRow). l ++ drop n ys) (append-nil (page_of m b n))

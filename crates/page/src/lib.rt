@@ -67,8 +67,8 @@ pub fn page(marks: Marks, book: &[u8; BOOK], rows: &mut [OrderRow]) -> Result<Sh
     ensures { Pages marks book.now rows.old result rows.new }
 {
     let shown = told(marks, rows.len())?;
-    for i in 0..shown.orders as usize {
-        rows[i] = row_of(marks, book, i);
+    for (i, row) in rows[..shown.orders as usize].iter_mut().enumerate() {
+        *row = row_of(marks, book, i);
     }
     Ok(shown)
 }

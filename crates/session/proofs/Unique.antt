@@ -2,7 +2,7 @@
 use mathlib.Core.Path.{◌≡◌, refl, sym, ap, ◌∙◌}
 use mathlib.Core.Option.{Option, none, some}
 use Prim.Native.Nat.{ℕ}
-use Rattle.std.specs.Prelude.{Some, None, Option as Maybe}
+use Rattle.std.specs.Prelude.{Some, None, Option as Optional}
 use Rattle.table.proofs.Unique.{judged, judged-found}
 use Rattle.session.specs.Reading.{Facts, numbered, facts}
 use Rattle.session.specs.declared.Findings.{Findings}
@@ -21,11 +21,11 @@ use Rattle.session.specs.contracts.Session.judge as judge
 use Rattle.session.specs.contracts.judging.word_tag as word-tag
 
 -- what was read is known by its facts: a number, and a judgement by its fault
-abbrev read : Option ℕ → Maybe ℕ
+abbrev read : Option ℕ → Optional ℕ
 read (some n) = Some n
 read none = None
 
-read-numbered : (n : Maybe ℕ) → read (numbered n) ≡ n
+read-numbered : (n : Optional ℕ) → read (numbered n) ≡ n
 read-numbered (Some n) = refl
 read-numbered None = refl
 

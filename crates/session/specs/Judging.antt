@@ -6,7 +6,7 @@
 --     5 to 7  the fault that Reading has from the table: in_turn rejects it (rejected_if), logon ends the session by it
 --     then the table's column "Effect": effect; moved, logged_out, gap_fill
 -- They stand below in the order in which each needs the one before; judge, at the end, is all of them.
-use Rattle.std.specs.Prelude.{ℕ, ◌+◌, ◌-◌, min, Bool, true, false, cond, ◌&&◌, ◌||◌, not, leb, ltb, eqb, Some, None, Option as Maybe}
+use Rattle.std.specs.Prelude.{ℕ, ◌+◌, ◌-◌, min, Bool, true, false, cond, ◌&&◌, ◌||◌, not, leb, ltb, eqb, Some, None, Option as Optional}
 use Rattle.std.proofs.Math.Option.{Option, none, some}
 use Rattle.octet.specs.Maybe.{is_none}
 use Rattle.field.specs.Pieces.{Pieces}
@@ -122,7 +122,7 @@ abbrev pub below : Session → Facts → Judged
 below s m = cond m.again (judged Dropped Nothing s) (ended s)
 
 -- one was written for this E
-abbrev pub asked_for : Maybe ℕ → ℕ → Bool
+abbrev pub asked_for : Optional ℕ → ℕ → Bool
 asked_for (Some e) n = eqb e n
 asked_for None n = false
 

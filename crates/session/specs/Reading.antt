@@ -1,5 +1,5 @@
 -- What the steps read off a message, by a look at its body: steps 1 and 2, what steps 5 to 7 find, and the values that the effects need.
-use Rattle.std.specs.Prelude.{ℕ, List, Bool, cond, Result, Some, None, Option as Maybe}
+use Rattle.std.specs.Prelude.{ℕ, List, Bool, cond, Result, Some, None, Option as Optional}
 use Rattle.std.proofs.Math.Option.{Option, none, some}
 use Rattle.octet.specs.Bytes.{bytes_of}
 use Rattle.octet.specs.Maybe as maybe
@@ -69,7 +69,7 @@ facts_in setup s ps = facts_of setup s (scan_of ps) (look_of ps)
 -- ---- what was read, as the code hands it on
 
 -- a number, where there is one
-abbrev pub numbered : Maybe ℕ → Option ℕ
+abbrev pub numbered : Optional ℕ → Option ℕ
 numbered (Some n) = some n
 numbered None = none
 

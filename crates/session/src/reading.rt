@@ -18,7 +18,7 @@ use table::{Given, number_at};
 fn is_first(look: Look, tag: u32, text: &[u8]) -> bool
     ensures { result ≡ is_that text.now (first (seen_by look.entry) tag) }
 {
-    look.count(tag) != 0 && octet::same(text, look.value(tag))
+    look.count(tag) != 0 && text == look.value(tag)
 }
 
 // Whether it is Y.

@@ -10,22 +10,23 @@ use lib.ListN.{length, drop, get_or, length-append, length-take, length-drop}
 use borrow.Author.Tests.{lt-ltb, le-ltb}
 use Rattle.octet.specs.Padded.{text_of}
 use Rattle.octet.specs.Splice.{splice, fits_at}
-use Rattle.octet.proofs.Cases.{cond-true, cond-false}
+use Rattle.octet.proofs.Cases.{cond-true, cond-false, le-or-lt}
 use Rattle.octet.proofs.Lists.{splice-then, splice-nil, splice-length, fits-true}
 use Rattle.text.specs.Writing.{empty, puts, held}
 use Rattle.text.specs.declared.Text.{Text}
 use Rattle.text.proofs.Decimals.{decimal-length}
 use Rattle.text.proofs.Puts.{held-short}
 use Rattle.book.specs.Place.{most_orders}
-use Rattle.restart.specs.Restart.{Outcome, Again, Unlawful, restart, told, counts_of}
+use mathlib.Core.Logic.{⊎_elim}
+use Rattle.listing.proofs.Pages.{day-is, day-long}
+use Rattle.restart.specs.Restart.{Outcome, Again, Unlawful, restart, counts_of}
 use Rattle.restart.specs.declared.Counts.{Counts}
-use Rattle.restart.specs.declared.Restarted.TheVariants as restarted
+use Rattle.std.specs.Prelude.{Ok, Err}
 use Rattle.queue.specs.declared.Marks.{Marks}
-use Rattle.page.specs.Page.{row_of, rows_from, told_of, page_of}
+use Rattle.page.specs.Page.{Paged, row_of, rows_from, told_of, page_of}
 use Rattle.page.specs.declared.OrderRow.{OrderRow}
-use Rattle.page.specs.declared.Paged.{Paged}
 use Rattle.page.proofs.Upto.{rows_more}
-use Rattle.listing.specs.Listing.{damaged, longest_file, is_too_long, too_long, book_listed}
+use Rattle.listing.specs.Listing.{longest_file, is_too_long, too_long, book_listed, said_by, said_of, day_by, day_of}
 use Rattle.totals.specs.Totals.{totals_by, totals_in, marks_from, totals_for, totals_of, row_line, row_lines, day_line, most_row_line, most_day_line, most_totals, Stands}
 
 -- ---- how long a line is
@@ -117,10 +118,18 @@ totals-is book notes h = cond-false (is_too_long notes) too_long (totals_for (bo
 never : {A : Type 0} → ◌≡◌ {A = ℕ} 0 1 → A
 never z = absurd (omega arith)
 
-pub again-is : (o : Outcome) (k : Counts) (whole : ℕ) (book : List ℕ) → restarted.Again k whole ≡ told o → totals_in (marks_from k) book ≡ totals_for book o
-again-is (Unlawful at) k whole book e = never cc
-again-is (Again q w) k whole book e = let f : k ≡ counts_of q = cc in ap (λ (x : Counts). totals_in (marks_from x) book) f
+pub again-is : (o : Outcome) (k : Counts) (len : ℕ) (book : List ℕ) → Ok k ≡ day_by len o → totals_in (marks_from k) book ≡ totals_for book o
+again-is (Unlawful at) k len book e = never cc
+again-is (Again q w) k len book e = let f : k ≡ counts_of q = cc in ap (λ (x : Counts). totals_in (marks_from x) book) f
 
-pub damaged-for : (o : Outcome) (at : ℕ) (book : List ℕ) → restarted.Unlawful at ≡ told o → damaged at ≡ totals_for book o
-damaged-for (Again q w) at book e = never cc
-damaged-for (Unlawful p) at book e = let f : at ≡ p = cc in ap damaged f
+-- of a file that keeps no day, the line that says so
+damaged-for : (o : Outcome) (len r : ℕ) (book : List ℕ) → Err r ≡ day_by len o → said_by o ≡ totals_for book o
+damaged-for (Again q w) len r book e = never cc
+damaged-for (Unlawful p) len r book e = refl
+
+pub unfound-for : (notes : List ℕ) (len r : ℕ) (book : List ℕ) → Err r ≡ day_of notes len → said_of notes ≡ totals_of book notes
+unfound-for notes len r book e =
+    ⊎_elim
+    (λ l. (let d = day-is notes len l in sym d.1 ∙ damaged-for (restart notes) len r (book_listed book notes) (e ∙ sym d.0) ∙ sym (totals-is book notes l)))
+    (λ l. sym (day-long notes len l).1 ∙ sym (totals-long book notes l))
+    (le-or-lt (length notes) longest_file)

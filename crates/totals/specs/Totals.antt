@@ -1,5 +1,5 @@
 -- The totals by a file of notes: a line for each order, what waits of it, and the day's sum under them.
-use Rattle.std.specs.Prelude.{ℕ, ◌≡◌, List, [], ◌∷◌, ◌++◌, cond, length}
+use Rattle.std.specs.Prelude.{ℕ, ◌≡◌, List, [], ◌∷◌, ◌++◌, cond, length, Ok, Err}
 use Rattle.octet.specs.Bytes.{bytes_of}
 use Rattle.octet.specs.Padded.{text_of}
 use Rattle.octet.specs.Splice.{splice}
@@ -11,10 +11,8 @@ use Rattle.restart.specs.Restart.{Outcome, Again, Unlawful, restart, counts_of, 
 use Rattle.restart.specs.declared.Counts.{Counts}
 use Rattle.queue.specs.Queue.{marks_again}
 use Rattle.queue.specs.declared.Marks.{Marks}
-use Rattle.page.specs.Page.{told_of, page_of}
+use Rattle.page.specs.Page.{Paged, told_of, page_of}
 use Rattle.page.specs.declared.OrderRow.{OrderRow}
-use Rattle.page.specs.declared.Paged.{Paged}
-use Rattle.page.specs.declared.Paged.TheVariants as paged
 use Rattle.listing.specs.Listing.{damaged, is_too_long, too_long, book_listed}
 
 -- the OrderID, a space and what waits of the order
@@ -30,8 +28,8 @@ day_line day = bytes_of "day " ++ decimal day ++ line_feed
 
 -- by what the page tells when it is lent enough rows, so that it is never refused
 abbrev pub totals_by : Marks → List ℕ → Paged → List ℕ
-totals_by marks book (paged.Refused why) = []
-totals_by marks book (paged.Shown n day) = row_lines (page_of marks book n) ++ day_line day
+totals_by marks book (Err why) = []
+totals_by marks book (Ok shown) = row_lines (page_of marks book shown.orders) ++ day_line shown.day
 
 -- the totals of a day in memory
 unfoldable pub totals_in : Marks → List ℕ → List ℕ

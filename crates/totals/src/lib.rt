@@ -9,9 +9,9 @@ ghost use Rattle.listing.specs.Listing.{book_listed};
 ghost use Rattle.totals.specs.Totals.{row_line, row_lines, day_line, totals_in, marks_from, totals_of, most_row_line, most_day_line, most_totals, Stands, Totals};
 
 use book::BOOK;
-use page::{OrderRow, Paged, ROWS};
+use page::{OrderRow, ROWS};
 use queue::Marks;
-use restart::{Counts, Restarted};
+use restart::Counts;
 use text::Text;
 
 // So many bytes are always enough: a line of 42 bytes for each of 128 orders, and 15.
@@ -25,20 +25,30 @@ fn marks_from(m: Counts) -> Marks
 }
 
 // The line of an order.
+#[tactic(auto, using(text::proofs::Puts::putting), unfolding(crate::specs::Totals::row_line))]
 fn row_text(row: OrderRow) -> Text
-    ensures { (result ≡ puts empty (row_line row)) × (length (row_line row) ≤ most_row_line) }
+    ensures text { result ≡ puts empty (row_line row) }
+    ensures most { length (row_line row) ≤ most_row_line }
 {
-    let id = row.id;
-    let name = octet::text_of(&id);
-    let named = Text::new().part(name, name.len()).part(b" ", 1);
-    named.decimal(row.waiting as u64).put(b'\n')
+    let mut t = Text::new();
+    t.all(octet::text_of(&row.id));
+    t.put(b' ');
+    t.decimal(u64::from(row.waiting));
+    t.put(b'\n');
+    t
 }
 
 // The last line.
+#[tactic(auto, using(text::proofs::Puts::putting), unfolding(crate::specs::Totals::day_line))]
 fn day_text(day: u32) -> Text
-    ensures { (result ≡ puts empty (day_line day)) × (length (day_line day) ≤ most_day_line) }
+    ensures text { result ≡ puts empty (day_line day) }
+    ensures most { length (day_line day) ≤ most_day_line }
 {
-    Text::new().part(b"day ", 4).decimal(day as u64).put(b'\n')
+    let mut t = Text::new();
+    t.all(b"day ");
+    t.decimal(u64::from(day));
+    t.put(b'\n');
+    t
 }
 
 // Writes the lines of the first n orders, and says where they end.
@@ -47,10 +57,8 @@ fn put_rows(page: &mut [u8], marks: Marks, book: &[u8; BOOK], n: usize) -> usize
     ensures { Stands (row_lines (page_of marks book.now n)) page.old result page.new × (result ≤ most_row_line * n) }
 {
     let mut end = 0;
-    let mut i = 0;
-    while i < n {
+    for i in 0..n {
         end = row_text(page::row_of(marks, book, i)).place(page, end);
-        i += 1;
     }
     end
 }
@@ -60,13 +68,11 @@ fn print_totals(marks: Marks, book: &[u8; BOOK], page: &mut [u8]) -> usize
     requires { length page.old ≡ most_totals }
     ensures { Stands (totals_in marks book.now) page.old result page.new × (result ≤ most_totals) }
 {
-    match page::told(marks, ROWS) {
-        Paged::Refused(_) => 0,
-        Paged::Shown(n, day) => {
-            let end = put_rows(page, marks, book, n as usize);
-            day_text(day).place(page, end)
-        }
-    }
+    let Ok(shown) = page::told(marks, ROWS) else {
+        return 0;
+    };
+    let end = put_rows(page, marks, book, shown.orders as usize);
+    day_text(shown.day).place(page, end)
 }
 
 // Writes the text over a page that has room for any, and says how long it is.
@@ -75,13 +81,9 @@ fn print(notes: &[u8], book: &mut [u8; BOOK], page: &mut [u8]) -> usize
     ensures { Stands (totals_of book.old notes.now) page.old result page.new
         × (result ≤ most_totals) × (book.new ≡ book_listed book.old notes.now) }
 {
-    if listing::PAGE < notes.len() {
-        octet::copy_into(page, 0, b"too long\n");
-        return 9;
-    }
-    match restart::restart(book, notes) {
-        Restarted::Again(m, _) => print_totals(marks_from(m), book, page),
-        Restarted::Unlawful(at) => listing::damaged_text(at as u64).place(page, 0),
+    match listing::day_of(notes, book, page) {
+        Ok(m) => print_totals(marks_from(m), book, page),
+        Err(len) => len,
     }
 }
 
@@ -92,8 +94,5 @@ pub fn write_totals(notes: &[u8], book: &mut [u8; BOOK], out: &mut [u8]) -> usiz
 {
     let mut page = [0u8; TOTALS];
     let n = print(notes, book, &mut page);
-    if octet::copy_into(out, 0, octet::part(&page, 0, n)) {
-        return n;
-    }
-    0
+    listing::put_front(out, &page[..n])
 }

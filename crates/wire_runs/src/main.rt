@@ -2,20 +2,16 @@
 // The expected bytes were laid out by hand, apart from the code, and QuickFIX reads each message as written (tests/engine/run).
 #![tactic(auto)]
 
-use answer::reasons::WRONG_FORM;
+use answer::reasons::{WRONG_FORM, WRONG_TYPE, WRONG_VALUE};
 use answer::{BAR, Fault, Id, LARGEST, LAST_SEQUENCE, LAST_TO_SEND, Setup};
 use std::io;
 use wire::{Reply, Say};
 
 fn id(s: &[u8]) -> Id {
-    let mut bytes = [0u8; 16];
-    if octet::copy_into(&mut bytes, 0, s) {
-        return Id {
-            bytes,
-            len: s.len(),
-        };
-    }
-    Id { bytes, len: 0 }
+    let mut bytes = [0; 16];
+    let fits = octet::copy_into(&mut bytes, 0, s);
+    let len = if fits { s.len() } else { 0 };
+    Id { bytes, len }
 }
 
 // Turns each byte 1 into `|`.
@@ -41,65 +37,67 @@ fn show(rt: &impl Print, r: Reply, o: u32, word: &[u8]) -> io::Result<()> {
     println!(rt; "")
 }
 
-fn show_own(rt: &impl Print) -> io::Result<()> {
-    show(rt, Reply::One(Say::Logon), 1, b"")?;
-    show(rt, Reply::One(Say::Heartbeat), 2, b"")?;
-    show(rt, Reply::One(Say::Test), 10, b"")?;
-    show(rt, Reply::One(Say::Logout), LARGEST, b"")
-}
+// Faults that are none of form.
+const OTHER_TYPE: Fault = Fault {
+    reason: WRONG_TYPE,
+    tag: 0,
+    at: 0,
+};
 
-fn show_answers(rt: &impl Print) -> io::Result<()> {
-    show(rt, Reply::One(Say::Echo), LAST_TO_SEND, b"TEST7")?;
-    show(
-        rt,
+const OTHER_TAG: Fault = Fault {
+    reason: WRONG_VALUE,
+    tag: 371,
+    at: 0,
+};
+
+// Faults of form, whose Rejects say where: the second with the largest numbers that a call has for it.
+const SHORT_PRICE: Fault = Fault {
+    reason: WRONG_FORM,
+    tag: 31,
+    at: 2,
+};
+
+const FAR_TEXT: Fault = Fault {
+    reason: WRONG_FORM,
+    tag: 9021,
+    at: 4055,
+};
+
+// What is asked to be written: the reply, the number of its first message, and the word that is repeated in it.
+type Run = (Reply, u32, &'static [u8]);
+
+static RUNS: [Run; 14] = [
+    (Reply::One(Say::Logon), 1, b""),
+    (Reply::One(Say::Heartbeat), 2, b""),
+    (Reply::One(Say::Test), 10, b""),
+    (Reply::One(Say::Logout), LARGEST, b""),
+    (Reply::One(Say::Echo), LAST_TO_SEND, b"TEST7"),
+    (
         Reply::One(Say::Echo),
         3,
         b"0123456789012345678901234567890123456789",
-    )?;
-    show(rt, Reply::One(Say::Resend(5)), 9, b"")?;
-    show(rt, Reply::One(Say::Reject(7, Fault::of(11, 0))), 99, b"UCC")?;
-    show(rt, Reply::One(Say::GapFill(1, 1000)), 1000, b"")
-}
-
-// A fault of form.
-fn misformed(tag: u32, at: usize) -> Fault {
-    Fault {
-        reason: WRONG_FORM,
-        tag,
-        at,
-    }
-}
-
-// Rejects that say where: the second with the largest numbers that a call has for it.
-fn show_places(rt: &impl Print) -> io::Result<()> {
-    show(rt, Reply::One(Say::Reject(7, misformed(31, 2))), 99, b"8")?;
-    show(
-        rt,
-        Reply::Two(
-            Say::Reject(LAST_SEQUENCE, misformed(9021, 4055)),
-            Say::Logout,
-        ),
+    ),
+    (Reply::One(Say::Resend(5)), 9, b""),
+    (Reply::One(Say::Reject(7, OTHER_TYPE)), 99, b"UCC"),
+    (Reply::One(Say::GapFill(1, 1000)), 1000, b""),
+    (Reply::One(Say::Reject(7, SHORT_PRICE)), 99, b"8"),
+    (
+        Reply::Two(Say::Reject(LAST_SEQUENCE, FAR_TEXT), Say::Logout),
         LAST_TO_SEND,
         b"UCC",
-    )
-}
-
-fn main(rt: HostRuntime) -> io::Result<()> {
-    let rt = &rt;
-    show_own(rt)?;
-    show_answers(rt)?;
-    show_places(rt)?;
-    show(
-        rt,
-        Reply::Two(Say::Reject(7, Fault::of(5, 371)), Say::Logout),
+    ),
+    (
+        Reply::Two(Say::Reject(7, OTHER_TAG), Say::Logout),
         100,
         b"8",
-    )?;
-    show(
-        rt,
-        Reply::Two(Say::GapFill(3, 10), Say::Resend(12)),
-        10,
-        b"",
-    )?;
-    show(rt, Reply::Nothing, 10, b"")
+    ),
+    (Reply::Two(Say::GapFill(3, 10), Say::Resend(12)), 10, b""),
+    (Reply::Nothing, 10, b""),
+];
+
+fn main(rt: HostRuntime) -> io::Result<()> {
+    for (reply, o, word) in &RUNS {
+        show(&rt, *reply, *o, word)?;
+    }
+    Ok(())
 }

@@ -4,4 +4,4 @@ use Rattle.page.proofs.Upto.{upto}
 use Rattle.page.proofs.page.Given as goal
 
 abbrev pub invariant-loop-i : goal.invariant-loop-i
-invariant-loop-i l = l.rows ≡ upto l.marks l.book l.i l.initial.rows
+invariant-loop-i l = l.row-items ≡ upto l.marks l.book l.i l.initial.row-items

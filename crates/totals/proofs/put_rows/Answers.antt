@@ -9,7 +9,7 @@ use Rattle.totals.proofs.put_rows.Goals as goal
 pub loop-i-init : goal.loop-i-init
 loop-i-init c =
     let a = c.args in
-    (rows_start a.marks a.book.now a.page.now, omega arith, omega arith)
+    (rows_start a.marks a.book.now a.page.now, omega arith)
 
 pub loop-i-preserved : goal.loop-i-preserved
 loop-i-preserved c =
@@ -17,13 +17,12 @@ loop-i-preserved c =
     let h = c.loop-i in
     let v = h.invariant in
     let few = v.1 in
-    let in_all = v.2 in
     let t = c.row_text.ensures in
     let p = c.place-end.ensures in
     let room = c.requires in
-    let g = rows-turn a.marks a.book.now a.page.now h.page _ _ _ h.end _ h.i v.0 room.1 (omega (arith, room.0)) c.row_of.ensures t.0 t.1 p.dst_after p.value in
+    let g = rows-turn a.marks a.book.now a.page.now h.page _ _ _ h.end _ h.i v.0 room.1 (omega (arith, room.0)) c.row_of.ensures t.text t.most p.dst_after p.value in
     let m = g.1 in
-    (g.0, omega arith, omega arith)
+    (g.0, omega arith)
 
 pub shape_of-page : goal.shape_of-page
 shape_of-page c =
@@ -36,6 +35,5 @@ returns c =
     let a = c.args in
     let h = c.loop-i in
     let few = h.invariant.1 in
-    let in_all = h.invariant.2 in
     let e : h.i ≡ a.n = omega arith in
     (rw (← e) h.invariant.0, omega arith)
