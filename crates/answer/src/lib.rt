@@ -27,7 +27,7 @@ pub const LAST_TO_SEND: u32 = NINE_DIGITS - 2;
 // "38 and 32 are 1 to 999,999".
 pub const MOST_CONTRACTS: u32 = 999_999;
 
-// An agreed ID: the first len of bytes.
+// An agreed ID: the first len of bytes. It stays an array with a length: a set-up keeps it by value, where a slice would have to be lent.
 #[derive(Clone, Copy, PartialEq, Eq)]
 pub struct Id {
     pub bytes: [u8; 16],
@@ -102,7 +102,7 @@ pub enum Phase {
 }
 
 impl Phase {
-    // "Phases: 0 out, 1 logon sent, 2 in, 3 ended, 4 closing".
+    // "Phases: 0 out, 1 logon sent, 2 in, 3 ended, 4 closing". The name stays, beside those of outcomes and refusals.
     pub fn number(self) -> u32
         ensures { result ≡ phase_number self }
     {

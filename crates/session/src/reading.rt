@@ -62,10 +62,8 @@ fn ids_fault(setup: Setup, look: Look) -> Result<(), Fault>
 pub fn findings_of(setup: Setup, s: Session, look: Look, scan: Result<(), Unsound>) -> Findings
     ensures { facts result ≡ facts_of setup s scan (seen_by look.entry) }
 {
-    let given = Given {
-        phase: s.phase,
-        o: s.o,
-    };
+    let Session { phase, o, .. } = s;
+    let given = Given { phase, o };
     let kind = table::kind_of(setup, look.value(tags::TYPE));
     Findings {
         kind,

@@ -1,5 +1,6 @@
 -- How far a value is like a pattern: a walk over both, and a value that is like it as far as it goes.
---     like-go, like-stop, like-past, like-done     the walk
+--     like-position, like-short     as `position` asks it
+--     like-go, like-done     the walk
 --     like-digits     where digits stand in the pattern, digits stand in such a value
 --     like-all     where the pattern has digits and marks alone, so has such a value
 --     like-append     such a value, and what follows it
@@ -7,16 +8,17 @@
 --     like-run, like-size, like-whole     a value that is like all of a pattern
 use mathlib.Core.Path.{◌≡◌, refl, sym, ap, ap₂, ◌∙◌, subst}
 use mathlib.Core.List.{List, [], ◌∷◌, ◌++◌, append-nil}
-use mathlib.Core.Bool.{Bool, true, false, cond}
-use Prim.Native.Nat.{ℕ, zero, suc, ◌+◌, ◌≤◌, ◌<◌}
+use mathlib.Core.Bool.{Bool, true, false, cond, not}
+use Prim.Native.Nat.{ℕ, zero, suc, ◌+◌, ◌≤◌, ◌<◌, min}
 use native.Mathlib.Omega.{arith}
 use lib.ListN.{length, get_or, take, drop}
 use lib.Seq.{take-length}
 use native.Mathlib.Nat.{zero-add}
 use lib.Dec.{eqb}
 use borrow.Author.Tests.{eqb-true, eq-eqb}
+use Rattle.std.specs.List.{position_or_len, zip}
 use Rattle.octet.specs.Bytes.{between, all_in, part}
-use Rattle.octet.proofs.Cases.{true-not-false, of-cond, cond-true, cond-false, and_both, and-make}
+use Rattle.octet.proofs.Cases.{true-not-false, of-cond, cond-true, and_both, and-make}
 use Rattle.octet.proofs.Lists.{drop-step, drop-done, between-low, between-high, is-between}
 use Rattle.value.specs.Value.{like_byte, like_run}
 use Rattle.value.specs.Place.{like_all}
@@ -25,17 +27,22 @@ like-none : (p : List ℕ) → like_run p [] ≡ 0
 like-none [] = refl
 like-none (t ∷ p) = refl
 
+-- as `position` asks it, along both at once
+pub like-position : (p v : List ℕ) → like_run p v ≡ position_or_len (λ (x : ℕ × ℕ). not (like_byte x.0 x.1)) (zip p v)
+like-position [] v = refl
+like-position (t ∷ p) [] = refl
+like-position (t ∷ p) (b ∷ v) = grind (arith, like-position p v)
+
+pub like-short : (p v : List ℕ) → like_run p v ≤ min (length p) (length v)
+like-short [] v = omega arith
+like-short (t ∷ p) [] = omega arith
+like-short (t ∷ p) (b ∷ v) = of-cond (λ (n : ℕ). n ≤ min (suc (length p)) (suc (length v))) (like_byte t b) (λ e. omega (arith, like-short p v)) (λ e. omega arith)
+
 -- at place i of both
 module _ (p v : List ℕ) (i : ℕ) where
   pub like-go : i < length p → i < length v → like_byte (get_or p i 0) (get_or v i 0) ≡ true
       → like_run (drop i p) (drop i v) ≡ 1 + like_run (drop (i + 1) p) (drop (i + 1) v)
   like-go hp hv e = ap₂ like_run (drop-step p i hp) (drop-step v i hv) ∙ cond-true _ _ _ e ∙ omega arith
-
-  pub like-stop : i < length p → i < length v → like_byte (get_or p i 0) (get_or v i 0) ≡ false → like_run (drop i p) (drop i v) ≡ 0
-  like-stop hp hv e = ap₂ like_run (drop-step p i hp) (drop-step v i hv) ∙ cond-false _ _ _ e
-
-  pub like-past : length p ≤ i → like_run (drop i p) (drop i v) ≡ 0
-  like-past h = ap (λ (l : List ℕ). like_run l (drop i v)) (drop-done p i h)
 
   pub like-done : length v ≤ i → like_run (drop i p) (drop i v) ≡ 0
   like-done h = ap (like_run (drop i p)) (drop-done v i h) ∙ like-none (drop i p)

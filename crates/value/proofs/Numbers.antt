@@ -2,10 +2,11 @@
 --     number-good, number-bad, number-out     what each answer means
 --     numeral, numeral-formed     a value is well formed as a number exactly where it is of digits only, 1 to 9
 --     exactly, exactly-formed     and as one of exactly n digits exactly where it is of digits only, so many
---     exactly-long, exactly-other, exactly-short, exactly-good     what reading makes of them
+--     exactly-bad, exactly-good     what reading makes of them
 --     number_read_lem     a numeral in range is read
 --     number-or, number-or-small     the number of a well-formed value, and its bound
 use mathlib.Core.Path.{◌≡◌, refl, sym, ap, ◌∙◌}
+use mathlib.Core.Logic.{◌⊎◌, ⊎_elim}
 use mathlib.Core.List.{List}
 use mathlib.Core.Option.{Option, none, some}
 use mathlib.Core.Bool.{Bool, true, false, cond}
@@ -124,17 +125,16 @@ module _ (n : ℕ) (v : List ℕ) (r : ℕ) (e : r ≡ digit_run v) where
   unfolding exactly_checked bad_digits
   exactly-by good form h f = sym (ap (λ (k : ℕ). checked (well_formed v k (leb n (length v))) true) (ap (min n) (sym e) ∙ h) ∙ ap (λ (o : Option ℕ). checked o true) f)
 
-  pub exactly-long : n < r → Err (Form n) ≡ exactly_checked n v
-  exactly-long h = exactly-by n (some n) (omega arith) (form-short v n (leb n (length v)) (λ k. omega (arith, run-most 48 57 v)))
+  -- of these so many are taken
+  module _ (taken : ℕ) (t : taken ≡ min r n) where
+    pub exactly-bad : (taken ≡ length v → ⊥) ⊎ ((taken ≡ length v) × (taken < n)) → Err (Form taken) ≡ exactly_checked n v
+    exactly-bad =
+        ⊎_elim
+        (λ h. exactly-by taken (some taken) (omega arith) (form-short v taken (leb n (length v)) h))
+        (λ h. (let k = h.0 in let l = h.1 in exactly-by taken (some taken) (omega arith) (form-part v taken (leb n (length v)) (lt-leb n (length v) (omega arith)))))
 
-  pub exactly-other : r ≤ n → (r ≡ length v → ⊥) → Err (Form r) ≡ exactly_checked n v
-  exactly-other h k = exactly-by r (some r) (omega arith) (form-short v r (leb n (length v)) k)
-
-  pub exactly-short : r ≡ length v → r < n → Err (Form r) ≡ exactly_checked n v
-  exactly-short k h = exactly-by r (some r) (omega arith) (form-part v r (leb n (length v)) (lt-leb n (length v) (omega arith)))
-
-  pub exactly-good : r ≤ n → r ≡ length v → n ≤ r → Ok tt ≡ exactly_checked n v
-  exactly-good h k l = exactly-by r none (omega arith) (form-well v r (leb n (length v)) k (le-leb n (length v) (omega arith)))
+    pub exactly-good : taken ≡ length v → n ≤ taken → Ok tt ≡ exactly_checked n v
+    exactly-good k l = exactly-by taken none (omega arith) (form-well v taken (leb n (length v)) k (le-leb n (length v) (omega arith)))
 
 pub numeral-small : (v : List ℕ) → NumberForm v → digits v ≤ 999999999
 numeral-small v n =

@@ -23,10 +23,9 @@ use Rattle.text.specs.Decimal.{digits}
 use Rattle.value.specs.Value.{well_formed, like_run, time_pattern, time_long, bad_time, is_day, is_clock, number_on, time_fits, is_time}
 use Rattle.value.specs.Plain.{like_from, two_digits, pair_on, PlainDay, PlainClock}
 use Rattle.value.specs.Readers.{checked, time_checked}
-use Rattle.std.specs.Prelude.{is_ok, Ok, Err}
+use Rattle.std.specs.Prelude.{Some, is_ok, Ok, Err}
 use Rattle.value.specs.declared.Flaw.TheVariants.{Form, Range}
 use Rattle.value.proofs.Forms.{form-short, form-part, form-well, form-good, checked-good, checked-bad, checked-out}
-use Rattle.value.proofs.Days.{day-below, clock-below}
 use Rattle.value.proofs.Like.{like-go, like-done, like-all, like-append}
 
 -- ---- form, and then range
@@ -76,10 +75,9 @@ pub day-read : (v : List ℕ) → 17 ≤ length v → (c y m d : ℕ) → c ≡ 
 day-read v h c y m d ec ey em ed = rw (ec, ey, em, ed, year-at v (omega arith)) refl
 
 -- ---- two digits that stand where a time has two
-module _ (v : List ℕ) (at r : ℕ) (e : r ≡ pair_on at v) (h : r < 100) where
+module _ (v : List ℕ) (at r : ℕ) (e : Some r ≡ pair_on at v) where
   pub pair-there : (two_digits at v ≡ true) × (r ≡ number_on at 2 v)
-  pair-there =
-      of-cond (λ (n : ℕ). r ≡ n → (two_digits at v ≡ true) × (r ≡ number_on at 2 v)) (two_digits at v) (λ t f. (t, f)) (λ t f. absurd (omega arith)) e
+  pair-there = of-cond (λ o. Some r ≡ o → (two_digits at v ≡ true) × (r ≡ number_on at 2 v)) (two_digits at v) (λ t f. (t, cc)) (λ t f. cc) e
 
   pub pair-like : at + 2 ≤ 21 → at + 2 ≤ length v → two_digits at time_pattern ≡ true → like_from at v ≡ 2 + like_from (at + 2) v
   pair-like hp hv d =
@@ -92,32 +90,25 @@ module _ (v : List ℕ) (at r : ℕ) (e : r ≡ pair_on at v) (h : r < 100) wher
 
 -- the day and the clock by their pairs
 module _ (v : List ℕ) (l : 17 ≤ length v) where
-  pub day-plain : (c y m d : ℕ) → c ≡ pair_on 0 v → y ≡ pair_on 2 v → m ≡ pair_on 4 v → d ≡ pair_on 6 v → c < 100 → y < 100 → is_day (c * 100 + y) m d ≡ true → PlainDay v
-  day-plain c y m d ec ey em ed hc hy t =
-      let b = day-below (c * 100 + y) m d t in
-      let hm : m < 100 = omega arith in
-      let hd : d < 100 = omega arith in
-      let p = pair-like v 0 c ec hc (omega arith) (omega arith) refl in
-      let q = pair-like v 2 y ey hy (omega arith) (omega arith) refl in
-      let r = pair-like v 4 m em hm (omega arith) (omega arith) refl in
-      let s = pair-like v 6 d ed hd (omega arith) (omega arith) refl in (
+  pub day-plain : (c y m d : ℕ) → Some c ≡ pair_on 0 v → Some y ≡ pair_on 2 v → Some m ≡ pair_on 4 v → Some d ≡ pair_on 6 v → is_day (c * 100 + y) m d ≡ true → PlainDay v
+  day-plain c y m d ec ey em ed t =
+      let p = pair-like v 0 c ec (omega arith) (omega arith) refl in
+      let q = pair-like v 2 y ey (omega arith) (omega arith) refl in
+      let r = pair-like v 4 m em (omega arith) (omega arith) refl in
+      let s = pair-like v 6 d ed (omega arith) (omega arith) refl in (
         omega arith,
-        sym (day-read v l c y m d (pair-there v 0 c ec hc).1 (pair-there v 2 y ey hy).1 (pair-there v 4 m em hm).1 (pair-there v 6 d ed hd).1) ∙ t,
+        sym (day-read v l c y m d (pair-there v 0 c ec).1 (pair-there v 2 y ey).1 (pair-there v 4 m em).1 (pair-there v 6 d ed).1) ∙ t,
       )
 
-  pub clock-plain : get_or v 8 0 ≡ 45 → get_or v 11 0 ≡ 58 → get_or v 14 0 ≡ 58 → (h m s : ℕ) → h ≡ pair_on 9 v → m ≡ pair_on 12 v → s ≡ pair_on 15 v → is_clock h m s ≡ true → PlainClock v
+  pub clock-plain : get_or v 8 0 ≡ 45 → get_or v 11 0 ≡ 58 → get_or v 14 0 ≡ 58 → (h m s : ℕ) → Some h ≡ pair_on 9 v → Some m ≡ pair_on 12 v → Some s ≡ pair_on 15 v → is_clock h m s ≡ true → PlainClock v
   clock-plain a b c h m s eh em es t =
-      let k = clock-below h m s t in
-      let hh : h < 100 = omega arith in
-      let hm : m < 100 = omega arith in
-      let hs : s < 100 = omega arith in
       let i = like-go time_pattern v 8 (omega arith) (omega arith) (eq-eqb 45 _ (sym a)) in
-      let p = pair-like v 9 h eh hh (omega arith) (omega arith) refl in
+      let p = pair-like v 9 h eh (omega arith) (omega arith) refl in
       let j = like-go time_pattern v 11 (omega arith) (omega arith) (eq-eqb 58 _ (sym b)) in
-      let q = pair-like v 12 m em hm (omega arith) (omega arith) refl in
+      let q = pair-like v 12 m em (omega arith) (omega arith) refl in
       let n = like-go time_pattern v 14 (omega arith) (omega arith) (eq-eqb 58 _ (sym c)) in
-      let r = pair-like v 15 s es hs (omega arith) (omega arith) refl in
-      (omega arith, rw (← (pair-there v 9 h eh hh).1, ← (pair-there v 12 m em hm).1, ← (pair-there v 15 s es hs).1) t)
+      let r = pair-like v 15 s es (omega arith) (omega arith) refl in
+      (omega arith, rw (← (pair-there v 9 h eh).1, ← (pair-there v 12 m em).1, ← (pair-there v 15 s es).1) t)
 
 -- ---- what it means that a time was read
 pub time-lengths : (v : List ℕ) → bad_time v ≡ none → (length v ≡ 17) ⊎ (length v ≡ 21)
@@ -171,11 +162,11 @@ pub time-read : (v : List ℕ) → is_time v ≡ true → time_checked v ≡ Ok 
 time-read v e = let t = time-is v e in time-ranged v t.formed ∙ cond-true (time_fits v) (Ok tt) (Err Range) t.fits
 
 -- a time with .mmm by its parts
-pub time-plain : (v : List ℕ) → length v ≡ 21 → get_or v 17 0 ≡ 46 → (n : ℕ) → n ≡ pair_on 18 v → n < 100 → between 48 57 (get_or v 20 0) ≡ true → PlainDay v → PlainClock v → is_time v ≡ true
+pub time-plain : (v : List ℕ) → length v ≡ 21 → get_or v 17 0 ≡ 46 → (n : ℕ) → Some n ≡ pair_on 18 v → between 48 57 (get_or v 20 0) ≡ true → PlainDay v → PlainClock v → is_time v ≡ true
 unfolding time_fits
-time-plain v l m n e h b d c =
+time-plain v l m n e b d c =
     let i = like-go time_pattern v 17 (omega arith) (omega arith) (eq-eqb 46 _ (sym m)) in
-    let p = pair-like v 18 n e h (omega arith) (omega arith) refl in
+    let p = pair-like v 18 n e (omega arith) (omega arith) refl in
     let j = like-go time_pattern v 20 (omega arith) (omega arith) b in
     let e : 21 ≡ like_run time_pattern v = omega (arith, like-done time_pattern v 21 (omega arith)) in
     of_parts v (time-formed v 21 e (sym l) refl) (and-make _ _ d.1 c.1)

@@ -7,6 +7,6 @@ pub returns-then-year-eq0 : goal.returns-then-year-eq0
 unfolding leap
 returns-then-year-eq0 c = simp (eq-eqb _ _ c.if-year-eq0.true)
 
-pub returns : goal.returns
+pub returns-else-year-eq0 : goal.returns-else-year-eq0
 unfolding leap
-returns c = simp (ne_eqb _ _ c.if-year-eq0.false)
+returns-else-year-eq0 c = simp (ne_eqb _ _ c.if-year-eq0.false)

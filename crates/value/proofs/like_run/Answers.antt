@@ -1,22 +1,29 @@
--- `value::like_run` meets its contract: i bytes are like the pattern, and what is left of both holds the rest.
-use borrow.Author.Rules.{rules}
-use mathlib.Core.Path.{sym, ◌∙◌}
+-- `value::like_run` meets its contract: both are gone along at once.
+use Rattle.std.proofs.Common.{rules}
+use borrow.Author.Tests.{tests}
+use mathlib.Core.Path.{sym, ap, ◌∙◌}
+use mathlib.Core.Bool.{not}
+use Prim.Native.Nat.{ℕ}
 use native.Mathlib.Omega.{arith}
-use Rattle.value.proofs.Like.{like-go, like-stop, like-past, like-done}
+use lib.ListN.{length}
+use Rattle.std.specs.Option.{unwrap_or}
+use Rattle.std.specs.List.{zip}
+use Rattle.std.proofs.lemmas.Iterator.{YieldsList-from_slice, YieldsList-from_zip}
+use Rattle.std.proofs.lemmas.Iterator.Search.{position_from_yields_List}
+use Rattle.std.proofs.lemmas.Slice.Zip.{length-zip}
+use Rattle.octet.proofs.Lists.{counted}
+use Rattle.value.specs.Value.{like_byte}
+use Rattle.value.proofs.Like.{like-position, like-short}
 use Rattle.value.proofs.like_run.Goals as goal
 
-pub returns-then-pattern-i : goal.returns-then-pattern-i
-returns-then-pattern-i c = omega (arith, like-past c.args.pattern.now c.args.v.now c.loop-i.i c.if-pattern-i.true)
-
-pub returns-then-not-is_like : goal.returns-then-not-is_like
-returns-then-not-is_like c =
-    let e = sym c.is_like.ensures ∙ c.if-not-is_like.true in
-    omega (arith, like-stop c.args.pattern.now c.args.v.now c.loop-i.i (search rules) (search rules) e)
-
-pub loop-i-preserved : goal.loop-i-preserved
-loop-i-preserved c =
-    let e = sym c.is_like.ensures ∙ c.if-not-is_like.false in
-    omega (arith, like-go c.args.pattern.now c.args.v.now c.loop-i.i (search rules) (search rules) e)
-
 pub returns : goal.returns
-returns c = omega (arith, like-done c.args.pattern.now c.args.v.now c.loop-i.i (search rules))
+returns c =
+    let p = c.args.pattern.now in
+    let v = c.args.v.now in
+    let e =
+    position_from_yields_List (λ (x : ℕ × ℕ). not (like_byte x.0 x.1)) c.position.new.self _ c.position.result c.position.ensures.ran
+    (YieldsList-from_zip {s = c.zip.result} (YieldsList-from_slice p cc) (YieldsList-from_slice v cc)) (λ x b q k. search (rules, tests)) in
+    let l = length-zip p v in
+    let n = like-position p v in
+    c.unwrap_or.ensures ∙ ap (λ m. unwrap_or c.position.result m) (c.min.ensures ∙ sym l) ∙ ap (λ o. unwrap_or o (length (zip p v))) e
+    ∙ counted _ (length (zip p v)) (omega (arith, like-short p v)) ∙ sym n

@@ -4,8 +4,10 @@ use Prim.Native.Nat.{ℕ, ◌≤◌}
 use Rattle.value.proofs.Prices.{price-front, price-small}
 use Rattle.value.proofs.price_of.Goals as goal
 
-pub returns : goal.returns
-returns c =
+pub returns-clause-value : goal.returns-clause-value
+returns-clause-value c = price-front c.args.v.now _ c.price_at_front.ensures
+
+pub returns-clause-upper_bound : goal.returns-clause-upper_bound
+returns-clause-upper_bound c =
     let v = c.args.v.now in
-    let e = price-front v _ c.price_at_front-front.ensures in
-    record { value = e; upper_bound = subst (λ (n : ℕ). n ≤ 99999999999) (sym e) (price-small v) }
+    subst (λ (n : ℕ). n ≤ 99999999999) (sym (price-front v _ c.price_at_front.ensures)) (price-small v)

@@ -1,24 +1,19 @@
 -- `value::read_number` meets its contract, by form and then by range.
+use mathlib.Core.Logic.{⊎_elim}
 use native.Mathlib.Omega.{arith}
 use Rattle.value.proofs.Numbers.{number_short, number-empty, number-in, number-below, number-above}
 use Rattle.value.proofs.read_number.Goals as goal
 
-pub returns-then-good-v : goal.returns-then-good-v
-returns-then-good-v c = record { value = number_short _ _ c.read_digits-front.ensures.value _ _ c.if-good-v.true; number_fits = tt }
+pub returns-then-len-v-clause-value : goal.returns-then-len-v-clause-value
+returns-then-len-v-clause-value c =
+    let e = c.read_digits-len.ensures.value in
+    ⊎_elim (λ h. number_short _ _ e _ _ h) (λ h. number-empty _ _ e _ _ h.0 (omega arith)) c.then-len-v.either
 
-pub returns-then-good-lt1 : goal.returns-then-good-lt1
-returns-then-good-lt1 c = record { value = number-empty _ _ c.read_digits-front.ensures.value _ _ c.if-good-v.false c.if-good-lt1.true; number_fits = tt }
+pub returns-then-value-low-clause-value : goal.returns-then-value-low-clause-value
+returns-then-value-low-clause-value c =
+    let e = c.read_digits-len.ensures.value in
+    let w = c.if-len-v.false in
+    ⊎_elim (λ h. number-below _ _ e w (omega arith) _ _ h) (λ h. number-above _ _ e w (omega arith) _ _ h.1) c.then-value-low.either
 
-pub returns-then-n-low : goal.returns-then-n-low
-returns-then-n-low c =
-    record { value = number-below _ _ c.read_digits-front.ensures.value c.if-good-v.false c.if-good-lt1.false _ _ c.if-n-low.true; number_fits = tt }
-
-pub returns-then-high-n : goal.returns-then-high-n
-returns-then-high-n c =
-    record { value = number-above _ _ c.read_digits-front.ensures.value c.if-good-v.false c.if-good-lt1.false _ _ c.if-high-n.true; number_fits = tt }
-
-pub returns : goal.returns
-returns c =
-    let low = c.if-n-low.false in
-    let high = c.if-high-n.false in
-    record { value = number-in _ _ c.read_digits-front.ensures.value c.if-good-v.false c.if-good-lt1.false _ _ low high; number_fits = (low, high, omega arith) }
+pub returns-clause-value : goal.returns-clause-value
+returns-clause-value c = number-in _ _ c.read_digits-len.ensures.value c.if-len-v.false (omega arith) _ _ c.if-value-low.false c.if-high-value.false

@@ -1,17 +1,19 @@
 -- `value::read_price` meets its contract, by form.
-use borrow.Author.Tests.{not-true, not-false}
 use mathlib.Core.Path.{sym, subst}
+use mathlib.Core.Logic.{⊎_elim}
 use Prim.Native.Nat.{ℕ, ◌≤◌}
 use Rattle.value.proofs.Prices.{price-short, price-part, price-whole, price-front, price-small}
 use Rattle.value.proofs.read_price.Goals as goal
 
-pub returns-then-good-v : goal.returns-then-good-v
-returns-then-good-v c = record { value = price-short _ _ c.price_at_front-front.ensures c.if-good-v.true; price_fits = tt }
+pub returns-then-good-v-clause-value : goal.returns-then-good-v-clause-value
+returns-then-good-v-clause-value c =
+    let e = c.price_at_front-good.ensures in
+    ⊎_elim (λ h. price-short _ _ e h) (λ h. price-part _ _ e h.1) c.then-good-v.either
 
-pub returns-then-not-front : goal.returns-then-not-front
-returns-then-not-front c = record { value = price-part _ _ c.price_at_front-front.ensures (not-true _ c.if-not-front.true); price_fits = tt }
+pub returns-clause-value : goal.returns-clause-value
+returns-clause-value c = price-whole _ _ c.price_at_front-good.ensures c.if-good-v.false c.if-not-complete.false
 
-pub returns : goal.returns
-returns c =
+pub returns-clause-price_fits : goal.returns-clause-price_fits
+returns-clause-price_fits c =
     let v = c.args.v.now in
-    let e = c.price_at_front-front.ensures in record { value = price-whole v _ e c.if-good-v.false (not-false _ c.if-not-front.false); price_fits = subst (λ (n : ℕ). n ≤ 99999999999) (sym (price-front v _ e)) (price-small v) }
+    subst (λ (n : ℕ). n ≤ 99999999999) (sym (price-front v _ c.price_at_front-good.ensures)) (price-small v)

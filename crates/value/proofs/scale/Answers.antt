@@ -18,6 +18,5 @@ returns-in-3 c = rw c.in-3.is
 
 pub returns-in_default : goal.returns-in_default
 returns-in_default c =
-    let r = c.in_default.in_default-own.rest in
-    let z : 4 - c.args.n ≡ 0 = omega (arith, r.1, r.0.1, r.0.0.1, r.0.0.0.1) in
+    let z : 4 - c.args.n ≡ 0 = grind arith in
     rw z

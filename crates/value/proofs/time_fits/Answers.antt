@@ -5,16 +5,15 @@ use Rattle.value.specs.Value.{time_fits}
 use Rattle.value.proofs.Times.{day-read}
 use Rattle.value.proofs.time_fits.Goals as goal
 
-pub returns-then-not-is_day : goal.returns-then-not-is_day
+pub returns-then-is_day : goal.returns-then-is_day
 unfolding time_fits
-returns-then-not-is_day c =
-    let v = c.args.v.now in
-    let day = day-read v c.requires _ _ _ _ c.pair_on.ensures.0 c.pair_on-2.ensures.0 c.pair_on-3.ensures.0 c.pair_on-4.ensures.0 in
-    sym (and-no-left _ _ (sym day ∙ sym c.is_day.ensures ∙ c.if-not-is_day.true))
+returns-then-is_day c =
+    let day = day-read c.args.v.now c.requires _ _ _ _ c.pair_on.ensures.0 c.pair_on-2.ensures.0 c.pair_on-3.ensures.0 c.pair_on-4.ensures.0 in
+    rw (sym day ∙ sym c.is_day.ensures ∙ c.if-is_day.true)
+    (c.is_clock.ensures ∙ rw (c.pair_on-then-is_day.ensures.0, c.pair_on-then-is_day-2.ensures.0, c.pair_on-then-is_day-3.ensures.0) refl)
 
-pub returns : goal.returns
+pub returns-else-is_day : goal.returns-else-is_day
 unfolding time_fits
-returns c =
-    let v = c.args.v.now in
-    let day = day-read v c.requires _ _ _ _ c.pair_on.ensures.0 c.pair_on-2.ensures.0 c.pair_on-3.ensures.0 c.pair_on-4.ensures.0 in
-    rw (sym day ∙ sym c.is_day.ensures ∙ c.if-not-is_day.false) (c.is_clock.ensures ∙ rw (c.pair_on-5.ensures.0, c.pair_on-6.ensures.0, c.pair_on-7.ensures.0) refl)
+returns-else-is_day c =
+    let day = day-read c.args.v.now c.requires _ _ _ _ c.pair_on.ensures.0 c.pair_on-2.ensures.0 c.pair_on-3.ensures.0 c.pair_on-4.ensures.0 in
+    c.if-is_day.false ∙ sym (and-no-left _ _ (sym day ∙ sym c.is_day.ensures ∙ c.if-is_day.false))
