@@ -4,6 +4,7 @@
 --     faulty-told, aside-told, fill-told     what each answer means
 --     tells-faulty, tells-aside, tells-fill     when each answer is given
 --     good-fill, fill-keeps     the same on the pieces of a body
+use Rattle.std.specs.Prelude.{Ok, Err}
 use mathlib.Core.Path.{◌≡◌, refl, sym, ap, ◌∙◌, subst}
 use mathlib.Core.List.{List}
 use mathlib.Core.Logic.{◌⊎◌, inl, inr, ⊎_elim}
@@ -21,10 +22,9 @@ use Rattle.field.specs.Pieces.{Pieces, first_of}
 use Rattle.field.specs.Look.{Look, look_of}
 use Rattle.field.proofs.Looks.{missing-of}
 use Rattle.answer.specs.declared.Fault.{Fault}
-use Rattle.report.specs.declared.Reported.{Reported}
-use Rattle.report.specs.declared.Reported.TheVariants.{Faulty, Aside}
+use Rattle.report.specs.declared.Reported.TheVariants.{Aside}
 use Rattle.report.specs.declared.Reported.TheVariants as reported
-use Rattle.report.specs.Report.{Report, is_crossed, cum_ok, leaves_ok, tied, status_ok, unless_kept, rule_fault, is_aside, after_rules, reported_of, report_of, report_in, reported_in}
+use Rattle.report.specs.Report.{Report, Said, is_crossed, cum_ok, leaves_ok, tied, status_ok, unless_kept, rule_fault, is_aside, after_rules, reported_of, report_of, report_in, reported_in}
 
 -- "151 = 38 − 14; 150 is 2 exactly when 151 is 0; 39 equals 150"
 pub record Plainly (r : Report) : Type 0 where
@@ -69,10 +69,10 @@ so-both : (p : Bool) → beq p p ≡ true
 so-both true = refl
 so-both false = refl
 
-abbrev Told : Bool → Option Fault → Reported → Type 0
-Told aside o (Faulty f) = o ≡ some f
-Told aside o Aside = (o ≡ none) × (aside ≡ true)
-Told aside o reported.Fill = (o ≡ none) × (aside ≡ false)
+abbrev Told : Bool → Option Fault → Said → Type 0
+Told aside o (Err f) = o ≡ some f
+Told aside o (Ok Aside) = (o ≡ none) × (aside ≡ true)
+Told aside o (Ok reported.Fill) = (o ≡ none) × (aside ≡ false)
 
 told-by : (aside : Bool) (o : Option Fault) → Told aside o (after_rules aside o)
 told-by aside (some f) = refl
@@ -136,27 +136,27 @@ module _ (r : Report) where
 
 -- what each answer means, and when it is given
 module _ (look : Look) where
-  pub faulty-told : (f : Fault) → reported_of look ≡ Faulty f → rule_fault (report_of look) ≡ some f
+  pub faulty-told : (f : Fault) → reported_of look ≡ Err f → rule_fault (report_of look) ≡ some f
   unfolding reported_of
   faulty-told f e = subst (Told (is_aside look) (rule_fault (report_of look))) e (told-by (is_aside look) (rule_fault (report_of look)))
 
-  pub aside-told : reported_of look ≡ Aside → (rule_fault (report_of look) ≡ none) × (is_aside look ≡ true)
+  pub aside-told : reported_of look ≡ Ok Aside → (rule_fault (report_of look) ≡ none) × (is_aside look ≡ true)
   unfolding reported_of
   aside-told e = subst (Told (is_aside look) (rule_fault (report_of look))) e (told-by (is_aside look) (rule_fault (report_of look)))
 
-  pub fill-told : reported_of look ≡ reported.Fill → (rule_fault (report_of look) ≡ none) × (is_aside look ≡ false)
+  pub fill-told : reported_of look ≡ Ok reported.Fill → (rule_fault (report_of look) ≡ none) × (is_aside look ≡ false)
   unfolding reported_of
   fill-told e = subst (Told (is_aside look) (rule_fault (report_of look))) e (told-by (is_aside look) (rule_fault (report_of look)))
 
-  pub tells-faulty : (f : Fault) → rule_fault (report_of look) ≡ some f → reported_of look ≡ Faulty f
+  pub tells-faulty : (f : Fault) → rule_fault (report_of look) ≡ some f → reported_of look ≡ Err f
   unfolding reported_of
   tells-faulty f e = rw e
 
-  pub tells-aside : rule_fault (report_of look) ≡ none → is_aside look ≡ true → reported_of look ≡ Aside
+  pub tells-aside : rule_fault (report_of look) ≡ none → is_aside look ≡ true → reported_of look ≡ Ok Aside
   unfolding reported_of
   tells-aside e f = rw (e, f)
 
-  pub tells-fill : rule_fault (report_of look) ≡ none → is_aside look ≡ false → reported_of look ≡ reported.Fill
+  pub tells-fill : rule_fault (report_of look) ≡ none → is_aside look ≡ false → reported_of look ≡ Ok reported.Fill
   unfolding reported_of
   tells-fill e f = rw (e, f)
 
@@ -168,9 +168,9 @@ module _ (ps : Pieces) where
   aside-is = ap not (missing-of ps 442)
 
   -- a report that keeps the rules and has no 442 tells of a fill
-  pub good-fill : Kept (report_in ps) → first_of 442 ps ≡ none → reported_in ps ≡ reported.Fill
+  pub good-fill : Kept (report_in ps) → first_of 442 ps ≡ none → reported_in ps ≡ Ok reported.Fill
   good-fill k e = tells-fill (look_of ps) (rules-kept (report_in ps) k) (aside-is ∙ ap (λ (o : Option (List ℕ)). not (is_none o)) e)
 
   -- one that tells of a fill keeps them
-  pub fill-keeps : reported_in ps ≡ reported.Fill → Kept (report_in ps)
+  pub fill-keeps : reported_in ps ≡ Ok reported.Fill → Kept (report_in ps)
   fill-keeps e = kept (report_in ps) (fill-told (look_of ps) e).0

@@ -1,45 +1,30 @@
 -- What the reading of a report and its rules put together.
---     exactly-yes, exactly-no     "exactly when", by its first side
---     rules-told     the rules in their order, from what each said
+--     rules_told     what the rules say of the values that were read
 --     slot_read, entry_read     the slot of a fill and of an entry, from the values read: of a code one byte
 --     slot-after     a lent slot after a report, by what it said
-use mathlib.Core.Path.{◌≡◌, refl, sym, ap, ◌∙◌}
+use mathlib.Core.Path.{◌≡◌, sym, ap, ◌∙◌}
 use mathlib.Core.List.{List, [], ◌∷◌}
-use mathlib.Core.Bool.{Bool, true, false, not, beq}
+use mathlib.Core.Option.{Option}
 use Prim.Native.Nat.{ℕ, ◌%◌}
 use native.Mathlib.Nat.{pow-zero}
 use native.Mathlib.Omega.{arith}
-use Rattle.octet.specs.Maybe.{or_else}
 use Rattle.octet.specs.Places.{number_bytes, high}
-use Rattle.octet.proofs.Cases.{true-not-false}
 use Rattle.value.specs.Value.{price_in}
 use Rattle.field.specs.Look.{Look}
 use Rattle.table.specs.Steps.{number_of}
 use Rattle.parts.specs.Parts.{laid}
 use Rattle.fill.specs.Slot.{Slot, fill_of, body_of, slot_of}
 use Rattle.fill.specs.Entry.{entry_of, entry_body, entry_slot}
+use Rattle.answer.specs.declared.Fault.{Fault}
 use Rattle.report.specs.declared.Sums.{Sums}
-use Rattle.report.specs.declared.Reported.{Reported}
-use Rattle.report.specs.Report.{report_with, is_crossed, cum_ok, leaves_ok, tied, status_ok, unless_kept, rule_fault, reported_of, slot_for, slot_on, slot_after}
+use Rattle.report.specs.Report.{Said, report_with, sums_of, report_of, rule_fault, reported_of, slot_for, slot_on, slot_after}
 use Rattle.report.specs.Correction.{entry_for}
 
--- one thing is so exactly when another is
-pub exactly-yes : (t b : Bool) → t ≡ true → b ≡ beq t b
-exactly-yes true true e = refl
-exactly-yes true false e = refl
-exactly-yes false b e = true-not-false (sym e)
-
-pub exactly-no : (t b : Bool) → t ≡ false → not b ≡ beq t b
-exactly-no true b e = true-not-false e
-exactly-no false true e = refl
-exactly-no false false e = refl
-
--- an early return names the rules up to its own
-pub rules-told : (sums : Sums) (kind status : List ℕ) {x a b d e : Bool} → is_crossed kind status ≡ x → cum_ok sums ≡ a → leaves_ok x sums ≡ b → tied x sums kind ≡ d
-    → status_ok x kind status ≡ e
-    → or_else (unless_kept 14 a) (or_else (unless_kept 151 b) (or_else (unless_kept 150 d) (unless_kept 39 e))) ≡ rule_fault (report_with sums kind status)
-unfolding rule_fault
-rules-told sums kind status ex ea eb ed ee = rw (ex, ea, eb, ed, ee)
+-- what the rules say of the values that were read
+pub rules_told : (look : Look) {sums : Sums} {kind status : List ℕ} {r : Option Fault} → sums ≡ sums_of look → kind ≡ look.text 150 → status ≡ look.text 39
+    → r ≡ rule_fault (report_with sums kind status) → rule_fault (report_of look) ≡ r
+unfolding report_of
+rules_told look es ek et e = rw (← es, ← ek, ← et) (sym e)
 
 -- a number in one byte
 pub one_place : (n : ℕ) → high 1 (n % 256) ≡ high 1 n
@@ -62,6 +47,6 @@ unfolding entry_for entry_body laid
 entry_read look er et en ed ex ec ee es ep em =
     er ∙ rw (et, en, ed, ex, ec, ee, es, ep, em, one_place (number_of look 54), one_place (number_of look 20), one_place (number_of look 9020))
 
-pub slot-after : (look : Look) (before : Slot) {r : Reported} → r ≡ reported_of look → slot_on look before r ≡ slot_after look before
+pub slot-after : (look : Look) (before : Slot) {r : Said} → r ≡ reported_of look → slot_on look before r ≡ slot_after look before
 unfolding slot_after
 slot-after look before e = ap (slot_on look before) e

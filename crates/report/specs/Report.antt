@@ -1,5 +1,5 @@
 -- "Execution reports": the values of a report that passed the table, by a look at its body, and the four rules.
-use Rattle.std.specs.Prelude.{ℕ, ◌-◌, List, Bool, cond, ◌&&◌, ◌||◌, not, eqb}
+use Rattle.std.specs.Prelude.{ℕ, ◌-◌, List, Bool, cond, ◌&&◌, ◌||◌, not, eqb, Result, Ok, Err}
 use Rattle.std.proofs.Math.Option.{Option, none, some}
 use Rattle.std.specs.Bool.{beq}
 use Rattle.octet.specs.Bytes.{between, same, is}
@@ -12,7 +12,7 @@ use Rattle.answer.specs.Numbers.{fault, wrong_value}
 use Rattle.answer.specs.declared.Fault.{Fault}
 use Rattle.fill.specs.Slot.{Slot, Fill, body_of, slot_of}
 use Rattle.report.specs.declared.Reported.{Reported}
-use Rattle.report.specs.declared.Reported.TheVariants.{Faulty, Aside}
+use Rattle.report.specs.declared.Reported.TheVariants.{Aside}
 use Rattle.report.specs.declared.Reported.TheVariants as reported
 use Rattle.report.specs.declared.Sums.{Sums}
 
@@ -72,11 +72,15 @@ report_of look = report_with (sums_of look) (look.text 150) (look.text 39)
 abbrev pub is_aside : Look → Bool
 is_aside look = not (eqb (look.count 442) 0)
 
-abbrev pub after_rules : Bool → Option Fault → Reported
-after_rules aside (some f) = Faulty f
-after_rules aside none = cond aside Aside reported.Fill
+-- what a report says: the rule that it breaks, or else that it is set aside or tells of a fill
+abbrev pub Said : Type 0
+Said = Result Reported Fault
 
-unfoldable pub reported_of : Look → Reported
+abbrev pub after_rules : Bool → Option Fault → Said
+after_rules aside (some f) = Err f
+after_rules aside none = Ok (cond aside Aside reported.Fill)
+
+unfoldable pub reported_of : Look → Said
 reported_of look = after_rules (is_aside look) (rule_fault (report_of look))
 
 -- the fill that a report tells of, and its slot
@@ -97,10 +101,10 @@ unfoldable pub slot_for : Look → Slot
 slot_for look = slot_of (body_of (fill_of look))
 
 -- a lent slot after a report: its fill's, where it tells of one, and else as it was
-abbrev pub slot_on : Look → Slot → Reported → Slot
-slot_on look before (Faulty f) = before
-slot_on look before Aside = before
-slot_on look before reported.Fill = slot_for look
+abbrev pub slot_on : Look → Slot → Said → Slot
+slot_on look before (Err f) = before
+slot_on look before (Ok Aside) = before
+slot_on look before (Ok reported.Fill) = slot_for look
 
 unfoldable pub slot_after : Look → Slot → Slot
 slot_after look before = slot_on look before (reported_of look)
@@ -110,7 +114,7 @@ slot_after look before = slot_on look before (reported_of look)
 abbrev pub report_in : Pieces → Report
 report_in ps = report_of (look_of ps)
 
-abbrev pub reported_in : Pieces → Reported
+abbrev pub reported_in : Pieces → Said
 reported_in ps = reported_of (look_of ps)
 
 abbrev pub slot_in : Pieces → Slot
