@@ -38,7 +38,7 @@ use Rattle.book.specs.declared.Placed.TheVariants as placed
 use Rattle.note.specs.Notes.{Raises, Acks, Clears}
 use Rattle.note.specs.Kept.{Kept, empty, bookable, lawful, after}
 use Rattle.report.specs.Report.{report_in, reported_in, slot_in, rule_fault}
-use Rattle.report.specs.Report.{Reporting}
+use Rattle.report.specs.Report.{Said}
 use Rattle.report.specs.declared.Reported.TheVariants as reported
 use Rattle.report.proofs.Kept.{fill-told}
 use Rattle.report.proofs.Lawful as fills
@@ -265,7 +265,7 @@ module _ (setup : Setup) (st : State) (time s : List ℕ) (safe : Safe st.kept) 
   acts-placed len ps n f (placed.Clash g) l law e =
       acts-rejected len ps n g l
 
-  acts-ruled : (len : ℕ) (ps : Pieces) (n : ℕ) (r : Reporting) → reported_in ps ≡ r → st.kept.e < nine_digits
+  acts-ruled : (len : ℕ) (ps : Pieces) (n : ℕ) (r : Said) → reported_in ps ≡ r → st.kept.e < nine_digits
       → (rule_fault (report_in ps) ≡ none → Lawful (slot_in ps)) → Acts st (Message time s) (carried_out setup st time len ps (becomes st (of_report (session_of st) (look_of ps) n r)))
   unfolding carried_out becomes of_report
   acts-ruled len ps n (Err f) e l law =

@@ -42,7 +42,7 @@ use Rattle.note.proofs.Keeping.{lawful-books, bookable-facts}
 use Rattle.report.specs.Report.{Report as Values, is_crossed, unless_kept, rule_fault, is_aside, after_rules, reported_of, report_of, report_in, reported_in, slot_in}
 use Rattle.report.specs.Crossed.{former_fault}
 use Rattle.report.specs.Noted.{Tells, IsFill}
-use Rattle.report.specs.Report.{Reporting}
+use Rattle.report.specs.Report.{Said}
 use Rattle.report.specs.declared.Reported.TheVariants as reported
 use Rattle.report.proofs.Kept.{rules-kept, fill-keeps, aside-is}
 use Rattle.report.proofs.Crossed.{difference}
@@ -173,7 +173,7 @@ module _ (setup : Setup) (st : State) (ps : Pieces) (type : kind_in setup ps ≡
       (λ x. contrary (ap (is "4") x.status) four)
       kept.rest
 
-  by-reported : (n : ℕ) → judge setup (session_of st) ps ≡ Report n → (r : Reporting) → reported_in ps ≡ r
+  by-reported : (n : ℕ) → judge setup (session_of st) ps ≡ Report n → (r : Said) → reported_in ps ≡ r
       → (j : Judged) × (of_report (session_of st) (look_of ps) n r ≡ Nothing j)
   unfolding of_report
   by-reported n e (Err f) k = (_, refl)

@@ -48,7 +48,8 @@ use Rattle.note.proofs.Reading.{Fits, note-length, reads-back, reads-part}
 use Rattle.note.proofs.Keeping.{Sound}
 use Rattle.report.specs.Report.{Report, is_crossed, cum_ok, leaves_ok, tied, status_ok, unless_kept, rule_fault, is_aside, after_rules, reported_of, report_in, reported_in, slot_in}
 use Rattle.report.specs.Correction.{entry_in}
-use Rattle.report.specs.Report.{Reporting}
+use Rattle.report.specs.Report.{Said}
+use Rattle.report.specs.declared.Reported.{Reported}
 use Rattle.report.specs.declared.Reported.TheVariants as reported
 use Rattle.queue.specs.Queue.{next_offer}
 use Rattle.restart.specs.Restart.{Outcome as Restarting, Again, Unlawful, restart}
@@ -300,14 +301,14 @@ module _ (setup : Setup) (ps : Pieces) where
       (or-told (unless_kept 150 (tied x n r.exec_type)) _ (kept-told 150 (tied x n r.exec_type) (omega arith))
       (kept-told 39 (status_ok x r.exec_type r.status) (omega arith))))
 
-  abbrev ToldReported : Reporting → Type 0
+  abbrev ToldReported : Said → Type 0
   ToldReported (Err f) = Told setup ps f
   ToldReported (Ok reported.Aside) = Unit {0}
   ToldReported (Ok reported.Fill) = Unit {0}
 
   rules-told : (aside : Bool) (o : Option Fault) → ToldIf setup ps o → ToldReported (after_rules aside o)
   rules-told aside (some f) h = h
-  rules-told aside none h = of-cond ToldReported aside (λ _. tt) (λ _. tt)
+  rules-told aside none h = of-cond (λ (r : Reported). ToldReported (Ok r)) aside (λ _. tt) (λ _. tt)
 
   reported-told : ToldReported (reported_in ps)
   unfolding reported_of
@@ -368,7 +369,7 @@ module _ (setup : Setup) (st : State) (time s : List ℕ) (ids : Agreed setup) (
       unfolding becomes
       brought-replied f = placed-replied f (place st.kept.slots st.kept.rows f) (place-told setup ps st.kept.slots st.kept.rows f)
 
-      ruled-replied : (r : Reporting) → ToldReported setup ps r → Does (becomes st (of_report (session_of st) (look_of ps) n r))
+      ruled-replied : (r : Said) → ToldReported setup ps r → Does (becomes st (of_report (session_of st) (look_of ps) n r))
       unfolding becomes of_report
       ruled-replied (Err f) h = said-replied (rejected (session_of st) n f) (rejected-speaks setup ps clear (session_of st) n f n-small h)
       ruled-replied (Ok reported.Aside) h = said-replied (passed outcome.Aside (session_of st)) (passed-speaks setup ps clear (session_of st) outcome.Aside refl)
