@@ -33,10 +33,10 @@ returns-in-Ok-Say c =
     let index-into = c.index_into-scan in
     let decide = c.decide in
     let word-tag = c.word_tag in
-    let value-at = c.value_at-word in
+    let value = c.value-word in
     let look = look_of (pieces_of a.body.now) in
     let word =
-    value-at.ensures ∙ ap (λ (x : Look). x.text word-tag.result) (look-by a.body.now index-into.ensures.1)
+    value.ensures ∙ ap (λ (x : Look). x.text word-tag.result) (look-by a.body.now index-into.ensures.1)
     ∙ ap (λ (t : ℕ). (at_listed look).text t) word-tag.ensures ∙ word-listed look c.in-Ok-Say.j.reply ∙ ap (λ (t : ℕ). look.text t) (sym word-tag.ensures) in
     answered-said a.setup a.st a.book.now a.time.now a.len (pieces_of a.body.now) decide.ensures _ (rw c.in-Ok-Say.field-0-is at (sym c.in-Ok-Say.is)) word word-tag.ensures
     c.settle.ensures
