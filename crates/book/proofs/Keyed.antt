@@ -9,14 +9,10 @@ use mathlib.Core.Bool.{Bool, true, false, cond, not, ◌&&◌}
 use mathlib.Core.Option.{Option, none, some}
 use Prim.Native.Nat.{ℕ, ◌+◌, ◌≤◌, ◌<◌, min}
 use native.Mathlib.Omega.{arith}
-use lib.ListN.{length}
 use lib.Dec.{ltb}
 use borrow.Author.Tests.{lt-ltb, le-ltb}
 use Rattle.octet.specs.Bytes.{same}
 use Rattle.octet.specs.Maybe.{find}
-use Rattle.octet.specs.Places.{word_at}
-use Rattle.octet.proofs.Cases.{and-no-right}
-use Rattle.octet.proofs.Places.{word-differs}
 use Rattle.answer.specs.Numbers.{fault, largest}
 use Rattle.fill.specs.Slot.{Slot, is_entry}
 use Rattle.fill.specs.Entry.{key_of}
@@ -27,7 +23,6 @@ use Rattle.book.specs.Admitting.{place, has_room, in_step, with_entry, stopped, 
 use Rattle.book.specs.Seeing.{is_keyed}
 use Rattle.book.specs.declared.Load.{Load}
 use Rattle.book.specs.declared.Booking.{Booking}
-use Rattle.book.specs.declared.Placed.{Placed}
 use Rattle.book.specs.declared.Placed.TheVariants.{Clash, Already, New}
 use Rattle.book.proofs.Regions.{slots_length}
 use Rattle.book.proofs.ByKind.{place-as, room_as, load-as}

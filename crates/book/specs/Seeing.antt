@@ -1,5 +1,5 @@
 -- What the searches over a region's cells find, as the private functions say it to one another: no public promise cites this.
-use Rattle.std.specs.Prelude.{ℕ, ◌≤◌, ◌<◌, min, ◌≡◌, List, [], ◌∷◌, Bool, true, false, not, ◌&&◌, ltb, Some, None}
+use Rattle.std.specs.Prelude.{ℕ, ◌<◌, min, ◌≡◌, List, [], ◌∷◌, Bool, true, false, not, ◌&&◌, ltb, Some, None}
 use Rattle.std.specs.declared.option.Option as answered
 use Rattle.std.proofs.Math.Option.{Option, none, some}
 use Rattle.octet.specs.Bytes.{same}

@@ -3,7 +3,7 @@ use Rattle.book.specs.Memory.{slots_here, region_of, slots_in, rows_in}
 use Rattle.book.specs.Seeing.{found_at}
 use Rattle.book.specs.declared.Admitted.TheVariants as admitted
 use mathlib.Core.Option.{some}
-use mathlib.Core.Path.{◌≡◌, sym, ap, ◌∙◌}
+use mathlib.Core.Path.{sym, ap, ◌∙◌}
 use Rattle.book.proofs.admit_fill.Goals as goal
 
 pub admit_new-requires : goal.admit_new-requires

@@ -7,7 +7,7 @@ use Rattle.book.specs.Seeing.{found_at}
 use Rattle.book.specs.declared.Admitted.TheVariants as admitted
 use lib.Dec.{ltb}
 use mathlib.Core.Option.{some}
-use mathlib.Core.Path.{◌≡◌, sym, ap, ◌∙◌}
+use mathlib.Core.Path.{sym, ap, ◌∙◌}
 use Rattle.book.proofs.entries.admit_entry.Goals as goal
 
 pub with_entry-requires : goal.with_entry-requires

@@ -1,9 +1,9 @@
 use borrow.Author.Rules.{rules}
 use mathlib.Core.List.{List}
-use mathlib.Core.Path.{◌≡◌, ap, ◌∙◌}
+use mathlib.Core.Path.{ap, ◌∙◌}
 use Prim.Native.Nat.{ℕ}
 use Rattle.octet.specs.Maybe.{find}
-use Rattle.fill.specs.Slot.{Slot, slot_width}
+use Rattle.fill.specs.Slot.{slot_width}
 use Rattle.book.specs.Memory.{cells}
 use Rattle.book.specs.Seeing.{is_keyed}
 use Rattle.book.proofs.Found.{first-found}
