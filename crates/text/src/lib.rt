@@ -71,7 +71,8 @@ impl Text {
         }
     }
 
-    // One byte more. The length is read once, before the byte is written: the compiler cannot tell that the byte is none of the length's, and would read it again.
+    // One byte more. The length is read once, before the byte is written: the compiler cannot tell that the byte is none of
+    // the length's, and would read it again.
     #[tactic(auto, unfolding(crate::specs::Writing::puts))]
     pub fn put(&mut self, x: u8)
         ensures { self.new ≡ puts self.old (x ∷ []) }
