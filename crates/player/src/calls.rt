@@ -1,9 +1,7 @@
 // A call, handed to the receiver, which is lent buffers that are filled anew.
-ghost use Rattle.std.specs.Prelude.{◌≤◌, length};
-
 use super::script::Ask;
 use super::transcript::Written;
-use super::{LENT, Sizes, World};
+use super::{LENT, World};
 use answer::Setup;
 use receiver::Told;
 use session::Own;
