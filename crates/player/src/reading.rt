@@ -47,12 +47,11 @@ pub(crate) fn run<I: Read>(
     let mut line = Store::new(&mut line);
     let mut room = [0u8; LINE];
     for _ in 0..u64::MAX {
-        match input.read(&mut piece).map_err(|_| UNREAD)? {
-            0 => return Ok(()),
-            n => take_piece(rt, world, octet::part(&piece, 0, n), &mut line, &mut room).map_err(
-                |_| UNWRITTEN,
-            )?,
+        let n = input.read(&mut piece).map_err(|_| UNREAD)?;
+        if n == 0 {
+            return Ok(());
         }
+        take_piece(rt, world, &piece[..n], &mut line, &mut room).map_err(|_| UNWRITTEN)?;
     }
     Ok(())
 }

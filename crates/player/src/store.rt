@@ -1,9 +1,11 @@
-// Bytes one after another, in memory that is lent: a line of the script that comes in pieces, and the journal.
+// Bytes one after another, at the front of memory that is lent: a line of the script that comes in pieces, and the journal.
+ghost use Rattle.std.specs.Prelude.{◌≤◌, length};
 
 #[derive(Drop)]
 pub(crate) struct Store<'a> {
     room: &'a mut [u8],
     len: usize,
+    ghost within: { len ≤ length room.now },
 }
 
 impl<'a> Store<'a> {
@@ -12,7 +14,8 @@ impl<'a> Store<'a> {
     }
 
     pub(crate) fn bytes(&self) -> &[u8] {
-        octet::part(self.room, 0, self.len)
+        let room = &*self.room;
+        &room[..self.len]
     }
 
     pub(crate) fn clear(&mut self) {
@@ -21,16 +24,18 @@ impl<'a> Store<'a> {
 
     // Bytes more, where there is room for all of them. It answers whether there is.
     pub(crate) fn add(&mut self, s: &[u8]) -> bool {
-        let fits = octet::copy_into(self.room, self.len, s);
-        if fits {
-            self.len = self.len.saturating_add(s.len());
-        }
-        fits
+        let room = &mut *self.room;
+        let Some(left) = room[self.len..].get_mut(..s.len()) else {
+            return false;
+        };
+        left.copy_from_slice(s);
+        self.len += s.len();
+        true
     }
 
     // As many of the bytes more as there is room for.
     pub(crate) fn fill(&mut self, s: &[u8]) {
-        let left = self.room.len().saturating_sub(self.len);
-        self.add(octet::part(s, 0, left));
+        let n = s.len().min(self.room.len() - self.len);
+        self.add(&s[..n]);
     }
 }
