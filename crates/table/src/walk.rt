@@ -24,7 +24,8 @@ pub fn number_at(look: Look, tag: u32) -> u32
     value::number_of(look.value(tag))
 }
 
-// Whether a number, or a text's length, is in range.
+// Whether a number, or a text's length, is in range. It is laid out where it is asked, since a call would cost as much as the question.
+#[inline(always)]
 fn is_in_range(look: Look, given: Given, range: Range, n: usize) -> bool
     ensures { result ≡ in_range given (seen_by look.entry) range n }
 {
