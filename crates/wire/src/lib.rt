@@ -221,6 +221,7 @@ pub fn write(
 }
 
 // Writes the messages of a reply from the buffer's start, and says where they end; nothing into a buffer under 512 bytes.
+#[tactic(auto, using(crate::proofs::Replies::replies), unfolding(crate::specs::Messages::reply_of))]
 pub fn write_reply(
     setup: Setup,
     o: u32,
