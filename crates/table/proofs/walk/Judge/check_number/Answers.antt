@@ -1,10 +1,10 @@
--- `table::walk::check_number` meets its contract: what is read is a number of nine digits at most, so that only form can fail there.
+-- `table::walk::Judge::check_number` meets its contract: what is read is a number of nine digits at most, so that only form can fail there.
 use mathlib.Core.Path.{sym, ap, ◌∙◌}
 use mathlib.Core.Option.{none}
 use Rattle.std.proofs.lemmas.Result.{err_from_is_err_and}
 use Rattle.value.specs.Readers.{checked}
 use Rattle.table.proofs.Values.{number-formed, number-refused}
-use Rattle.table.proofs.walk.check_number.Goals as goal
+use Rattle.table.proofs.walk.Judge.check_number.Goals as goal
 
 pub returns-in_err-n : goal.returns-in_err-n
 returns-in_err-n c =

@@ -1,9 +1,9 @@
--- `table::walk::check_value` meets its contract: each arm knows its form.
+-- `table::walk::Judge::check_value` meets its contract: each arm knows its form.
 use mathlib.Core.Path.{ap, ◌∙◌}
 use mathlib.Core.Option.{none}
 use Rattle.value.specs.Readers.{checked, time_checked, code_checked}
 use Rattle.table.specs.Steps.{bad_form, fits}
-use Rattle.table.proofs.walk.check_value.Goals as goal
+use Rattle.table.proofs.walk.Judge.check_value.Goals as goal
 
 pub returns-in-Price : goal.returns-in-Price
 unfolding bad_form fits

@@ -1,8 +1,8 @@
--- `table::walk::is_in_range` meets its contract, by the tests of each arm.
+-- `table::walk::Judge::is_in_range` meets its contract, by the tests of each arm.
 use borrow.Author.Tests.{eq-eqb, ne_eqb, le-leb, lt-leb}
 use Rattle.table.specs.Steps.{in_range}
 use Rattle.table.proofs.Values.{below_next}
-use Rattle.table.proofs.walk.is_in_range.Goals as goal
+use Rattle.table.proofs.walk.Judge.is_in_range.Goals as goal
 
 pub returns-then-low-n : goal.returns-then-low-n
 unfolding in_range

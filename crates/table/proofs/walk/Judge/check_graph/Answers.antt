@@ -1,10 +1,10 @@
--- `table::walk::check_graph` meets its contract: any length passes where the bytes are read, and is judged after.
+-- `table::walk::Judge::check_graph` meets its contract: any length passes where the bytes are read, and is judged after.
 use mathlib.Core.Path.{sym, ap, ◌∙◌}
 use mathlib.Core.Option.{none}
 use Rattle.std.proofs.lemmas.Result.{err_from_is_err_and}
 use Rattle.value.specs.Readers.{checked}
 use Rattle.table.proofs.Values.{graph-formed, graph-refused}
-use Rattle.table.proofs.walk.check_graph.Goals as goal
+use Rattle.table.proofs.walk.Judge.check_graph.Goals as goal
 
 pub returns-in_err-read_graph : goal.returns-in_err-read_graph
 returns-in_err-read_graph c =
