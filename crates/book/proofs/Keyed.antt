@@ -1,21 +1,18 @@
 -- What the definitions come to for an entry, test by test: its key, its place, room and the counts. twin is what a search found for the key.
---     key-empty, key-by, key-glance     the same key
---     key-new, key-already, key-clash, entry-placed     placement
+--     key-empty, keyed     the same key
+--     entry-new, entry-already, entry-clash     placement
 --     entry-room-last, entry-room-by, entry-room     room
 --     entry-counted, entry-booking     the counts, and what a booking changes and answers
 use mathlib.Core.Path.{◌≡◌, refl, sym, ap, ◌∙◌}
 use mathlib.Core.List.{List, []}
 use mathlib.Core.Bool.{Bool, true, false, cond, not, ◌&&◌}
+use mathlib.Core.Option.{Option, none, some}
 use Prim.Native.Nat.{ℕ, ◌+◌, ◌≤◌, ◌<◌, min}
 use native.Mathlib.Omega.{arith}
-use lib.ListN.{length}
 use lib.Dec.{ltb}
 use borrow.Author.Tests.{lt-ltb, le-ltb}
 use Rattle.octet.specs.Bytes.{same}
 use Rattle.octet.specs.Maybe.{find}
-use Rattle.octet.specs.Places.{word_at}
-use Rattle.octet.proofs.Cases.{and-no-right}
-use Rattle.octet.proofs.Places.{word-differs}
 use Rattle.answer.specs.Numbers.{fault, largest}
 use Rattle.fill.specs.Slot.{Slot, is_entry}
 use Rattle.fill.specs.Entry.{key_of}
@@ -23,13 +20,11 @@ use Rattle.book.specs.Rows.{Row, row_place}
 use Rattle.book.specs.Entries.{same_key, by_key, place_entry, entry_room, most_entries}
 use Rattle.book.specs.Memory.{most_slots, slots_in}
 use Rattle.book.specs.Admitting.{place, has_room, in_step, with_entry, stopped, booking_of}
-use Rattle.book.specs.Seeing.{some_slot}
+use Rattle.book.specs.Seeing.{is_keyed}
 use Rattle.book.specs.declared.Load.{Load}
 use Rattle.book.specs.declared.Booking.{Booking}
-use Rattle.book.specs.declared.Placed.{Placed}
 use Rattle.book.specs.declared.Placed.TheVariants.{Clash, Already, New}
 use Rattle.book.proofs.Regions.{slots_length}
-use Rattle.book.proofs.Finds.{known-none, known_some}
 use Rattle.book.proofs.ByKind.{place-as, room_as, load-as}
 
 -- ---- the same key
@@ -37,30 +32,9 @@ pub key-empty : (a : Slot) → same_key a [] ≡ false
 unfolding same_key
 key-empty a = refl
 
-module _ (e s : Slot) where
-  pub key-by : {a b : Bool} → is_entry s ≡ a → same (key_of e) (key_of s) ≡ b → a && b ≡ same_key e s
-  unfolding same_key
-  key-by ea eb = cc
-
-  -- a slot that differs in one word is another
-  pub key-glance : (at word : ℕ) → word ≡ word_at at (key_of e) → (word_at at (key_of s) ≡ word → ⊥) → same_key e s ≡ false
-  unfolding same_key
-  key-glance at word h d =
-      and-no-right (is_entry s) (same (key_of e) (key_of s)) (word-differs at (key_of e) (key_of s) (λ x. d (sym x ∙ sym h)))
-
-  -- ---- placement
-  pub key-new : length s ≡ 0 → New ≡ by_key e (some_slot s)
-  unfolding by_key
-  key-new h = sym (ap (by_key e) (known-none s h))
-
-  module _ (some_bytes : length s ≡ 0 → ⊥) where
-    pub key-already : same e s ≡ true → Already ≡ by_key e (some_slot s)
-    unfolding by_key
-    key-already h = sym (ap (by_key e) (known_some s some_bytes) ∙ rw h)
-
-    pub key-clash : same e s ≡ false → Clash (fault 5 20) ≡ by_key e (some_slot s)
-    unfolding by_key
-    key-clash h = sym (ap (by_key e) (known_some s some_bytes) ∙ rw h)
+pub keyed : (e : Slot) (ss : List Slot) → find (is_keyed (key_of e)) ss ≡ find (same_key e) ss
+unfolding same_key
+keyed e ss = refl
 
 -- ---- room
 pub entry-room-last : (last entries : ℕ) → most_slots ≤ last → false ≡ ltb last most_slots && entry_room entries
@@ -80,9 +54,22 @@ entry-counted load lf lo le =
 
 -- ---- what becomes of it
 module _ (e : Slot) (h : is_entry e ≡ true) where
-  pub entry-placed : (ss : List Slot) (rows : List Row) (twin : Slot) (r : Placed) → some_slot twin ≡ find (same_key e) ss → r ≡ by_key e (some_slot twin) → r ≡ place ss rows e
-  unfolding place_entry
-  entry-placed ss rows twin r et er = er ∙ ap (by_key e) et ∙ sym (place-as e h ss rows)
+  module _ (ss : List Slot) (rows : List Row) where
+    entry-placed : {o : Option Slot} → find (same_key e) ss ≡ o → place ss rows e ≡ by_key e o
+    unfolding place_entry
+    entry-placed f = place-as e h ss rows ∙ ap (by_key e) f
+
+    pub entry-new : find (same_key e) ss ≡ none → place ss rows e ≡ New
+    unfolding by_key
+    entry-new f = entry-placed f
+
+    pub entry-already : (k : Slot) → find (same_key e) ss ≡ some k → same e k ≡ true → place ss rows e ≡ Already
+    unfolding by_key
+    entry-already k f x = entry-placed f ∙ rw x
+
+    pub entry-clash : (k : Slot) → find (same_key e) ss ≡ some k → same e k ≡ false → place ss rows e ≡ Clash (fault 5 20)
+    unfolding by_key
+    entry-clash k f x = entry-placed f ∙ rw x
 
   pub entry-room : (last : ℕ) (m : List ℕ) (rows : List Row) (load : Load) → ltb last most_slots && entry_room load.entries ≡ has_room (slots_in last m) rows load e
   entry-room last m rows load =

@@ -3,7 +3,7 @@ pub mod Regions
 pub mod Words
 pub mod Finds
 pub mod Rowing
-pub mod Passing
+pub mod Found
 pub mod Written
 pub mod Stored
 pub mod ByKind

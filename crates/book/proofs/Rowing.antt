@@ -5,6 +5,7 @@
 --     first_found, booked-found, known-found     what is known of an order, from what stands at its row's place
 --     first-set, first-none     the first that passes changed is one set at its place, or none
 --     known_is     an order is known exactly where its first fill is
+--     rows-unknown     an order that has no fill has no row
 use mathlib.Core.Path.{◌≡◌, refl, sym, ap, ◌∙◌}
 use mathlib.Core.Logic.{◌⊎◌, inl, inr, ⊎_elim}
 use mathlib.Core.List.{List, [], ◌∷◌, ◌++◌}
@@ -17,7 +18,7 @@ use lib.ListN.{length, get_or, drop, set, length-append, get_or-eq_default, get_
 use lib.Seq.{get_or-append_seam}
 use Rattle.octet.specs.Maybe.{find, is_none}
 use Rattle.octet.specs.Places.{number_in}
-use Rattle.octet.proofs.Cases.{bool_case, contrary, cond-true, cond-false, of-cond, le-or-lt, find-here, find-later, find-passes}
+use Rattle.octet.proofs.Cases.{true-not-false, bool_case, contrary, cond-true, cond-false, of-cond, le-or-lt, find-here, find-later, find-passes}
 use Rattle.fill.specs.Slot.{Slot}
 use Rattle.book.specs.Place.{same_order}
 use Rattle.book.specs.Rows.{Row, first_in, booked_in, numbered, head_of, is_row_of, row_for, before, row_place, head_by, booked_by, first_for, booked_for, is_known, on_first}
@@ -181,3 +182,23 @@ module _ (p : Row → Bool) (g : Row → Row) where
       (λ e. absurd (omega (arith, before_here p r rows e)))
       (λ e. cond-false (p r) (g r ∷ rows) (r ∷ on_first p g rows) e ∙ ap (λ (l : List Row). r ∷ l) (first-none rows (omega (arith, before-later p r rows e))))
       (bool_case (p r))
+
+-- ---- an order that has no fill among the slots has no row: a row's order has its first fill among them
+module _ (f : Slot) where
+  none-there : (ss : List Slot) (i : ℕ) → find (same_order f) ss ≡ none → same_order f (get_or ss i []) ≡ false
+  none-there [] i h = order-empty f
+  none-there (s ∷ ss) zero h = ⊎_elim (λ e. true-not-false (sym (ap is_none (sym (find-here (same_order f) s ss e) ∙ h)))) (λ e. e) (bool_case (same_order f s))
+  none-there (s ∷ ss) (suc i) h =
+      ⊎_elim
+      (λ e. true-not-false (sym (ap is_none (sym (find-here (same_order f) s ss e) ∙ h))))
+      (λ e. none-there ss i (sym (find-later (same_order f) s ss e) ∙ h))
+      (bool_case (same_order f s))
+
+  none-numbered : (ss : List Slot) (k : ℕ) → find (same_order f) ss ≡ none → same_order f (numbered k ss) ≡ false
+  none-numbered ss zero h = order-empty f
+  none-numbered ss (suc i) h = none-there ss i h
+
+  pub rows-unknown : (ss : List Slot) (rows : List Row) → find (same_order f) ss ≡ none → row_place ss rows f ≡ length rows
+  unfolding row_place
+  rows-unknown ss [] h = refl
+  rows-unknown ss (r ∷ rows) h = before-later (is_row_of ss f) r rows (none-numbered ss (first_in r) h) ∙ ap suc (rows-unknown ss rows h)

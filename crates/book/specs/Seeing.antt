@@ -1,49 +1,58 @@
 -- What the searches over a region's cells find, as the private functions say it to one another: no public promise cites this.
-use Rattle.std.specs.Prelude.{ℕ, ◌-◌, ◌*◌, ◌≤◌, min, ◌≡◌, List, [], ◌∷◌, Bool, true, false, not, ◌&&◌, drop, ltb}
+use Rattle.std.specs.Prelude.{ℕ, ◌<◌, min, ◌≡◌, List, [], ◌∷◌, Bool, true, false, not, ◌&&◌, ltb, Some, None}
+use Rattle.std.specs.declared.option.Option as answered
 use Rattle.std.proofs.Math.Option.{Option, none, some}
+use Rattle.octet.specs.Bytes.{same}
 use Rattle.octet.specs.Maybe.{find, find_last, is_none}
-use Rattle.octet.specs.Places.{word_at}
 use Rattle.answer.specs.Numbers.{largest}
-use Rattle.fill.specs.Slot.{Slot, slot_width, exec_of, order_of}
+use Rattle.fill.specs.Slot.{Slot, slot_width, is_fill, is_entry, exec_of}
+use Rattle.fill.specs.Entry.{key_of}
 use Rattle.book.specs.Place.{same_exec, same_order, fill_room, orders_with}
-use Rattle.book.specs.Rows.{Row, is_row_of, rows_less, day_less}
-use Rattle.book.specs.Memory.{most_slots, region_of, slots_here, rows_here, cells, cell_at, slots_in, rows_in, laid}
+use Rattle.book.specs.Rows.{rows_less, day_less}
+use Rattle.book.specs.Memory.{most_slots, region_of, slots_here, rows_here, cell_at, slots_in, rows_in, laid}
 use Rattle.book.specs.declared.Load.{Load}
 use Rattle.book.specs.declared.Seen.{Seen}
-use Rattle.book.specs.declared.Glance.{Glance}
 
 -- what is found is handed back as its bytes; no bytes say that there is none
 abbrev pub some_slot : Slot → Option Slot
 some_slot [] = none
 some_slot (b ∷ s) = some (b ∷ s)
 
--- no slot from i on, of n in the region m, is a fill with the ExecID of f; and none of its order
-abbrev pub NoExec : List ℕ → Slot → ℕ → ℕ → Type 0
-NoExec m f n i = find_last (same_exec f) (cells slot_width (n - i) (drop (i * slot_width) m)) ≡ none
+-- the slot at a place that was found in the region m
+abbrev pub found_at : List ℕ → answered.Option ℕ → Option Slot
+found_at m None = none
+found_at m (Some i) = some (cell_at slot_width i m)
 
-abbrev pub NoOrder : List ℕ → Slot → ℕ → ℕ → Type 0
-NoOrder m f n i = find (same_order f) (cells slot_width (n - i) (drop (i * slot_width) m)) ≡ none
+-- what a test said of the slots that were looked at: it passed the first place, or the last, at which it passes one of n slots of the region m; none where it passes none
+abbrev pub IsFirst : (Slot → Bool → Type 0) → List ℕ → ℕ → answered.Option ℕ → Type 0
+IsFirst Says m n None = (k : ℕ) → k < n → Says (cell_at slot_width k m) false
+IsFirst Says m n (Some i) = (i < n) × Says (cell_at slot_width i m) true × ((k : ℕ) → k < i → Says (cell_at slot_width k m) false)
 
--- slots r to n of the region may be passed over, for any fill of which these are the glances: what none behind n is, none behind r is
-abbrev pub PassesExec : List ℕ → Glance → ℕ → ℕ → Type 0
-PassesExec m exec n r = (f : Slot) (all : ℕ) → n ≤ all → exec.word ≡ word_at exec.at (exec_of f) → NoExec m f all n → NoExec m f all r
+abbrev pub IsLast : (Slot → Bool → Type 0) → List ℕ → ℕ → answered.Option ℕ → Type 0
+IsLast Says m n None = (k : ℕ) → k < n → Says (cell_at slot_width k m) false
+IsLast Says m n (Some i) = (i < n) × Says (cell_at slot_width i m) true × ((k : ℕ) → i < k → k < n → Says (cell_at slot_width k m) false)
 
-abbrev pub PassesBoth : List ℕ → Glance → Glance → ℕ → ℕ → Type 0
-PassesBoth m exec order n r =
-    (f : Slot) (all : ℕ) → n ≤ all → exec.word ≡ word_at exec.at (exec_of f) → order.word ≡ word_at order.at (order_of f)
-    → NoExec m f all n × NoOrder m f all n → NoExec m f all r × NoOrder m f all r
+pub record FindsFirst (Says : Slot → Bool → Type 0) (m : List ℕ) (n : ℕ) (r : answered.Option ℕ) : Type 0 where
+  pub found : IsFirst Says m n r
+
+pub record FindsLast (Says : Slot → Bool → Type 0) (m : List ℕ) (n : ℕ) (r : answered.Option ℕ) : Type 0 where
+  pub found : IsLast Says m n r
+
+-- a fill with that ExecID
+abbrev pub is_exec : List ℕ → Slot → Bool
+is_exec id s = is_fill s && same id (exec_of s)
+
+-- an entry with that key
+abbrev pub is_keyed : List ℕ → Slot → Bool
+is_keyed id s = is_entry s && same id (key_of s)
 
 -- what has been seen of f among slots that stand in the region m: at its place the newest with its ExecID; and where its order is not known, no fill of it
 abbrev pub Sees : List ℕ → Slot → List Slot → Seen → Type 0
-Sees m f ss seen = (some_slot (cell_at slot_width seen.exec m) ≡ find_last (same_exec f) ss) × (seen.known ≡ false → find (same_order f) ss ≡ none)
+Sees m f ss seen = (found_at m seen.exec ≡ find_last (same_exec f) ss) × (seen.known ≡ false → find (same_order f) ss ≡ none)
 
 -- the same of slots of the book
 abbrev pub SeesIn : List ℕ → Slot → List Slot → Seen → Type 0
 SeesIn book f ss seen = Sees (region_of slots_here book) f ss seen
-
--- where the answer is yes, the row is of another order, for any fill of whose OrderID this is the glance
-abbrev pub OtherRow : List Slot → Row → Glance → Bool → Type 0
-OtherRow ss row order r = (f : Slot) → order.word ≡ word_at order.at (order_of f) → r ≡ true → is_row_of ss f row ≡ false
 
 -- whether something was found
 abbrev pub there : Slot → Bool

@@ -4,9 +4,9 @@ ghost use Rattle.std.specs.Prelude.{◌≡◌, ◌-◌, ◌<◌, ◌*◌, ◌+�
 ghost use Rattle.book.specs.Place.{most_orders};
 ghost use Rattle.book.specs.Rows.{row_width, first_in, booked_in, waits_in, row_of, head_of, row_place, day_with};
 ghost use Rattle.book.specs.Memory.{most_slots, rows_here, slots_in, slot_at, rows_in, row_at, row_put, row_more, row_fewer, TakesOff};
-ghost use Rattle.book.specs.Seeing.{OtherRow, TakesOne};
+ghost use Rattle.book.specs.Seeing.{TakesOne};
 
-use super::{BOOK, Glance, ROW, ROWS, ROWS_AT, book_len, glance_at, inside, same_order, slot_at};
+use super::{BOOK, ROW, ROWS, ROWS_AT, SLOTS, Sought, book_len, slot_at};
 
 // A row begins with the first of its three numbers, and has the others here.
 const BOOKED_AT: usize = 4;
@@ -32,13 +32,6 @@ pub fn waits_in(row: &[u8]) -> u32
     ensures { result ≡ waits_in row.now }
 {
     octet::four_at(row, WAITS_AT)
-}
-
-// How many of so many orders have a row in the memory.
-pub(crate) fn inside_rows(orders: usize) -> usize
-    ensures { result ≡ min orders most_orders }
-{
-    if orders < ROWS { orders } else { ROWS }
 }
 
 // Where the i-th row stands.
@@ -74,31 +67,10 @@ pub fn head_of<'a>(book: &'a [u8; BOOK], last: usize, row: &[u8]) -> &'a [u8]
     ensures { result.now ≡ head_of (slots_in last book.now) row.now }
 {
     let n = first_in(row) as usize;
-    if n == 0 {
-        return octet::part(book, BOOK, 0);
-    }
-    if last < n {
+    if n == 0 || last < n {
         return octet::part(book, BOOK, 0);
     }
     slot_at(book, n - 1)
-}
-
-// Whether a row is told from that of an order at a glance: there is no fill of its number, or its OrderID differs. Each way out is of its own, since
-// nearly every row that a search passes ends here.
-fn is_other(book: &[u8; BOOK], last: usize, row: &[u8], order: Glance) -> bool
-    ensures { OtherRow (slots_in last book.now) row.now order result }
-{
-    let n = first_in(row) as usize;
-    if n == 0 {
-        return true;
-    }
-    if last < n {
-        return true;
-    }
-    if octet::word_at(fill::order_of(slot_at(book, n - 1)), order.at) == order.word {
-        return false;
-    }
-    true
 }
 
 // The place of the row of the order of slot, among so many; behind the last where there is none.
@@ -106,19 +78,12 @@ pub(crate) fn find_row(book: &[u8; BOOK], last: usize, orders: usize, slot: &[u8
     ensures { result ≡ row_place (slots_in last book.now) (rows_in orders book.now) slot.now }
 {
     book_len(book);
-    let order = glance_at(fill::order_of(slot));
-    let most = inside(last);
-    let n = inside_rows(orders);
-    let mut i = 0;
-    while i < n {
-        let row = row_at(book, i);
-        if !is_other(book, most, row, order) {
-            let first = head_of(book, most, row);
-            if same_order(slot, first) {
-                return i;
-            }
+    let order = Sought::new(fill::order_of(slot));
+    for i in 0..orders.min(ROWS) {
+        let first = head_of(book, last, row_at(book, i));
+        if order.is(fill::order_of(first)) && fill::is_fill(first) {
+            return i;
         }
-        i += 1;
     }
     orders
 }
@@ -168,16 +133,10 @@ pub fn day_with(day: u32, slot: &[u8]) -> u32
     ensures { result ≡ day_with day slot.now }
 {
     if fill::is_fill(slot) {
-        return answer::count_on(day, fill::shares_of(slot));
+        answer::count_on(day, fill::shares_of(slot))
+    } else {
+        day
     }
-    day
-}
-
-// What is left of n with k taken off; it stops at 0.
-fn less(n: u32, k: u32) -> u32
-    ensures { result ≡ n - k }
-{
-    if n < k { 0 } else { n - k }
 }
 
 // The row at that place, one of so many, with contracts taken off those that wait.
@@ -188,7 +147,7 @@ fn less_in_row(book: &mut [u8; BOOK], orders: usize, row: usize, q: u32)
         let first = first_in(row_at(book, row));
         let booked = booked_in(row_at(book, row));
         let waits = waits_in(row_at(book, row));
-        put_row(book, row, first, booked, less(waits, q));
+        put_row(book, row, first, booked, waits.saturating_sub(q));
     }
 }
 
@@ -203,13 +162,7 @@ fn take_one(book: &mut [u8; BOOK], last: usize, orders: usize, i: usize, day: u3
     let q = fill::shares_of(slot_at(book, i));
     let row = find_row(book, last, orders, slot_at(book, i));
     less_in_row(book, orders, row, q);
-    less(day, q)
-}
-
-fn least(a: usize, b: usize) -> usize
-    ensures { result ≡ min a b }
-{
-    if a < b { a } else { b }
+    day.saturating_sub(q)
 }
 
 // The slots after number from, up to number to, are acknowledged: what is left of the day's sum, and in the rows.
@@ -224,12 +177,9 @@ pub fn take_off(
     ensures { TakesOff book.old last orders from to day result book.new }
 {
     book_len(book);
-    let end = inside(least(to, last));
     let mut left = day;
-    let mut i = from;
-    while i < end {
+    for i in from..to.min(last).min(SLOTS) {
         left = take_one(book, last, orders, i, left);
-        i += 1;
     }
     left
 }

@@ -334,9 +334,6 @@ page-whole page page₁ page₂ first lines end r h e₁ en e₂ er =
     (e₂ ∙ ap (λ (p : List ℕ). splice p end lines) e₁ ∙ splice-then page 0 end first lines (omega arith) (omega arith), omega arith)
 
 -- ---- the day of the notes, or the line that says that there is none
-never : {A : Type 0} → ◌≡◌ {A = ℕ} 0 1 → A
-never z = absurd (omega arith)
-
 counts_in : Counts → Result Restarted ℕ → Counts
 counts_in k (Ok again) = again.counts
 counts_in k (Err at) = k
@@ -345,14 +342,14 @@ counts_in k (Err at) = k
 pub day-again : (o : Outcome) (again : Restarted) (len : ℕ) → Ok again ≡ told o → (Ok again.counts ≡ day_by len o) × ([] ≡ said_by o)
 unfolding counts_in
 day-again (Again q w) again len e = (ap Ok (ap (counts_in again.counts) e), refl)
-day-again (Unlawful at) again len e = never cc
+day-again (Unlawful at) again len e = absurd cc
 
 pub day-damaged : (o : Outcome) (at len : ℕ) → Err at ≡ told o → (Err len ≡ day_by len o) × (damaged at ≡ said_by o)
-day-damaged (Again q w) at len e = never cc
+day-damaged (Again q w) at len e = absurd cc
 day-damaged (Unlawful p) at len e = let f : at ≡ p = cc in (refl, ap damaged f)
 
 pub damaged-at : (o : Outcome) (at most : ℕ) → Err at ≡ told o → GivenIn most o → at ≤ most
-damaged-at (Again q w) at most e g = never cc
+damaged-at (Again q w) at most e g = absurd cc
 damaged-at (Unlawful p) at most e g = let f : at ≡ p = cc in omega arith
 
 -- by how long the notes are
@@ -377,7 +374,7 @@ pub record Paged (o : Outcome) (k : Counts) (book : List ℕ) : Type 0 where
   pub unsaid : [] ≡ said_by o
 
 paged : (o : Outcome) (k : Counts) (len most : ℕ) (book : List ℕ) → Ok k ≡ day_by len o → GivenIn most o → HasDay book o → Paged o k book
-paged (Unlawful at) k len most book e g h = never cc
+paged (Unlawful at) k len most book e g h = absurd cc
 paged (Again q w) k len most book e g h =
     let f : k ≡ counts_of q = cc in
     subst (λ (x : Counts). Paged (Again q w) x book) (sym f)
@@ -396,7 +393,7 @@ found notes len k book e h =
     let g = e ∙ sym d.0 in
     let p = paged (restart notes) k len (length notes) book g (restart-given notes) h in
     record { short = l; given = g; paged = p; unsaid = p.unsaid ∙ d.1 }))
-    (λ l. never (let d = (day-long notes len l).0 in cc))
+    (λ l. absurd (let d = (day-long notes len l).0 in cc))
     (le-or-lt (length notes) longest_file)
 
 -- of a file that keeps none, the line is what is printed, and it is short
@@ -406,7 +403,7 @@ pub record Unfound (notes : List ℕ) (len r : ℕ) : Type 0 where
   pub short : length (said_of notes) ≤ 32
 
 damaged-short : (o : Outcome) (len r most : ℕ) → Err r ≡ day_by len o → most ≤ longest_file → GivenIn most o → (r ≡ len) × (said_by o ≡ printed o) × (length (said_by o) ≤ 32)
-damaged-short (Again q w) len r most e h g = never cc
+damaged-short (Again q w) len r most e h g = absurd cc
 damaged-short (Unlawful at) len r most e h g = (cc, refl, damaged-most at (omega arith))
 
 pub unfound : (notes : List ℕ) (len r : ℕ) → Err r ≡ day_of notes len → Unfound notes len r

@@ -1,180 +1,88 @@
 // The code of bytes: `|` is byte 1, `\hh` the byte of two hex digits, another byte of 33 to 126 itself, and `-` alone no bytes.
-ghost use Rattle.std.specs.Prelude.{◌≤◌, ◌<◌};
+ghost use Rattle.std.specs.Prelude.{◌<◌, length, IfSome};
 
-use super::plus;
 use answer::BAR;
-
-// The bytes that can stand for themselves in the code.
-const FIRST_PLAIN: u8 = 33;
-
-const LAST_PLAIN: u8 = 126;
-
-// ---- hex digits
-
-// What a hex digit counts, 16 where it is none.
-fn hex_value(b: u8) -> u8 {
-    if b'0' <= b && b <= b'9' {
-        return b - b'0';
-    }
-    if b'a' <= b && b <= b'f' {
-        return b - b'a' + 10;
-    }
-    16
-}
-
-// The hex digit of a number below 16.
-fn hex_digit(n: u8) -> u8 {
-    if n < 10 {
-        return b'0' + n;
-    }
-    if n < 16 {
-        return b'a' + (n - 10);
-    }
-    b'?'
-}
+use std::fmt;
+use std::fmt::Display;
 
 // ---- a word of the script, decoded
 
-// A byte of a word as it is coded: itself, or `\` and two hex digits.
-#[derive(Drop)]
-enum Coded {
-    Plain(u8),
-    Hex(u8),
-    Bad,
-}
-
-// The byte of two hex digits by what they count.
-fn hex_byte(high: u8, low: u8) -> Coded {
-    if 15 < high {
-        return Coded::Bad;
-    }
-    if 15 < low {
-        return Coded::Bad;
-    }
-    Coded::Hex(high * 16 + low)
-}
-
-// The coded byte at a place of a word.
-fn coded_at(word: &[u8], i: usize) -> Coded {
-    let b = octet::byte_at(word, i);
-    if b == b'|' {
-        return Coded::Plain(BAR);
-    }
-    if b == b'\\' {
-        let high = octet::byte_at(word, plus(i, 1));
-        let low = octet::byte_at(word, plus(i, 2));
-        return hex_byte(hex_value(high), hex_value(low));
-    }
-    if b < FIRST_PLAIN {
-        return Coded::Bad;
-    }
-    if LAST_PLAIN < b {
-        return Coded::Bad;
-    }
-    Coded::Plain(b)
-}
-
-// The place n further on, or the end.
-fn further(i: usize, n: usize, end: usize) -> usize
-    requires { (i < end) × (0 < n) }
-    ensures { (i < result) × (result ≤ end) }
+// What a hex digit counts: only the lower-case ones are in the code.
+fn hex_value(digit: u8) -> Option<u8>
+    ensures { IfSome result (λ n. n < 16) }
 {
-    if end - i <= n { end } else { i + n }
+    match digit {
+        b'0'..=b'9' => Some(digit - b'0'),
+        b'a'..=b'f' => Some(digit - b'a' + 10),
+        _ => None,
+    }
 }
 
-// One byte more, where there is room.
-fn put(out: &mut [u8], at: usize, b: u8) -> usize {
-    if at < out.len() {
-        out[at] = b;
-        return at + 1;
+// The first byte that a word codes, and what is left of the word.
+fn first_byte(word: &[u8]) -> Option<(u8, &[u8])>
+    ensures { IfSome result (λ r. length r.1.now < length word.now) }
+{
+    match word {
+        [b'|', rest @ ..] => Some((BAR, rest)),
+        [b'\\', high, low, rest @ ..] => Some((hex_value(*high)? * 16 + hex_value(*low)?, rest)),
+        [b'\\', ..] => None,
+        [b @ b'!'..=b'~', rest @ ..] => Some((*b, rest)),
+        _ => None,
     }
-    at
 }
 
-// Where the bytes of a word end, or that it is not in the code.
-#[derive(Drop)]
-pub(crate) enum Decoded {
-    To(usize),
-    Bad,
+// Writes the bytes that a word codes to the front of the room, and says how many they are.
+fn put_bytes(word: &[u8], room: &mut [u8]) -> Option<usize> {
+    let mut rest = word;
+    let mut n = 0;
+    while !rest.is_empty() {
+        let (b, after) = first_byte(rest)?;
+        *room.get_mut(n)? = b;
+        n += 1;
+        rest = after;
+    }
+    Some(n)
 }
 
-// Writes the bytes that a word codes from place `at` on.
-pub(crate) fn decode(word: &[u8], bytes: &mut [u8], at: usize) -> Decoded {
-    if word.len() == 0 {
-        return Decoded::Bad;
-    }
-    if octet::same(word, b"-") {
-        return Decoded::To(at);
-    }
-    let mut end = at;
-    let mut i = 0;
-    while i < word.len() {
-        match coded_at(word, i) {
-            Coded::Plain(b) => {
-                end = put(bytes, end, b);
-                i = further(i, 1, word.len());
-            }
-            Coded::Hex(b) => {
-                end = put(bytes, end, b);
-                i = further(i, 3, word.len());
-            }
-            Coded::Bad => {
-                return Decoded::Bad;
-            }
-        }
-    }
-    Decoded::To(end)
+// The bytes that a word codes, written to the front of the room, and the room that is left. A word codes no more bytes than it has, and a line's room is
+// for as many as a line has.
+pub(crate) fn decode<'a>(word: &[u8], room: &'a mut [u8]) -> Option<(&'a [u8], &'a mut [u8])> {
+    let n = match word {
+        b"" => return None,
+        b"-" => 0,
+        _ => put_bytes(word, room)?,
+    };
+    let (bytes, left) = room.split_at_mut_checked(n)?;
+    Some((bytes, left))
 }
 
 // ---- bytes for the transcript, encoded
 
-// Whether a byte is written as itself.
-fn is_plain(b: u8) -> bool {
-    if b == b'|' {
-        return false;
-    }
-    if b == b'\\' {
-        return false;
-    }
-    FIRST_PLAIN <= b && b <= LAST_PLAIN
-}
+// Bytes, which are shown in the code: `-` for none, and a lone `-` as a hex byte.
+#[derive(Clone, Copy)]
+pub(crate) struct Coded<'a>(pub(crate) &'a [u8]);
 
-// A byte as `\` and two hex digits.
-fn put_hex(out: &mut [u8], at: usize, b: u8) -> usize {
-    let high = put(out, at, b'\\');
-    let low = put(out, high, hex_digit(b / 16));
-    put(out, low, hex_digit(b % 16))
+impl Display for Coded<'_> {
+    fn fmt<W: fmt::Write>(&self, f: &mut fmt::Formatter<W>) -> fmt::Result {
+        match self.0 {
+            b"" => f.write_str("-"),
+            b"-" => f.write_str("\\2d"),
+            bytes => {
+                for b in bytes {
+                    show_byte(f, *b)?;
+                }
+                Ok(())
+            }
+        }
+    }
 }
 
 // One byte in the code.
-fn put_coded(out: &mut [u8], at: usize, b: u8) -> usize {
-    if b == BAR {
-        return put(out, at, b'|');
+fn show_byte<W: fmt::Write>(f: &mut fmt::Formatter<W>, b: u8) -> fmt::Result {
+    match b {
+        BAR => f.write_char('|'),
+        b'|' | b'\\' => write!(f, "\\{b:02x}"),
+        b'!'..=b'~' => f.write_char(char::from(b)),
+        _ => write!(f, "\\{b:02x}"),
     }
-    if is_plain(b) {
-        return put(out, at, b);
-    }
-    put_hex(out, at, b)
-}
-
-// Every byte in the code.
-fn put_each(out: &mut [u8], at: usize, s: &[u8]) -> usize {
-    let mut end = at;
-    let mut i = 0;
-    while i < s.len() {
-        end = put_coded(out, end, s[i]);
-        i += 1;
-    }
-    end
-}
-
-// Bytes in the code: `-` for none, and a lone `-` as a hex byte.
-pub(crate) fn encode(out: &mut [u8], at: usize, s: &[u8]) -> usize {
-    if s.len() == 0 {
-        return put(out, at, b'-');
-    }
-    if octet::same(s, b"-") {
-        return put_hex(out, at, b'-');
-    }
-    put_each(out, at, s)
 }

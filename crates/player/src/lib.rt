@@ -2,6 +2,7 @@
 // says on standard error why it cannot. docs/REPLAY.md has the language.
 #![tactic(auto)]
 
+mod store; // bytes one after another, in memory that is lent
 mod code; // bytes, decoded and encoded
 mod script; // a line of the script, read
 mod transcript; // what is written of a call
@@ -12,7 +13,8 @@ mod reading; // standard input, line by line
 
 use answer::Setup;
 use book::BOOK;
-use receiver::{State, Told};
+use receiver::State;
+use store::Store;
 use tally::Tally;
 
 // The most bytes of a line of a script, of the journal, and of a buffer that is lent.
@@ -30,48 +32,23 @@ struct Sizes {
     line: usize,
 }
 
-// One receiver and what its caller keeps: the tally, how many bytes of the journal are notes, and what is lent. Before the first `ids` that is
-// not refused there is no receiver. `written` says whether the last line of the transcript could be: where not, nobody hears of what is run next.
-#[derive(Clone, Copy)]
-struct World {
-    begun: bool,
-    setup: Setup,
+// One receiver and what its caller keeps: the book, the tally, the journal of all notes, and what is lent. Before the first `ids` that is not refused
+// it has no set-up, and no other line is in the language.
+#[derive(Drop)]
+struct World<'a> {
+    setup: Option<Setup>,
     state: State,
     tally: Tally,
-    journal: usize,
     sizes: Sizes,
-    written: bool,
+    journal: Store<'a>,
+    book: [u8; BOOK],
 }
 
-// What came back of a call, and the tally after it.
-#[derive(Clone, Copy)]
-struct Came {
-    told: Told,
-    tally: Tally,
-}
-
-// The sum, or the last number there is.
-fn plus(a: usize, b: usize) -> usize {
-    if b <= usize::MAX - a {
-        a + b
-    } else {
-        usize::MAX
-    }
-}
-
-// All memory that a script works in stands here.
 pub fn play_input(rt: &(impl Input + Print + Eprint)) {
-    let mut line = [0u8; LINE];
-    let mut bytes = [0u8; LINE];
-    let mut journal = [0u8; JOURNAL];
-    let mut book = [0u8; BOOK];
-    let mut input = rt.reader();
-    reading::run(
-        rt,
-        &mut input,
-        &mut line,
-        &mut bytes,
-        &mut journal,
-        &mut book,
-    );
+    let mut journal = [0; JOURNAL];
+    let mut world = World::new(Store::new(&mut journal));
+    if let Err(why) = reading::run(rt, &mut rt.reader(), &mut world) {
+        // Where that cannot be written either, there is nobody to tell.
+        let _ = rt.eprint(why);
+    }
 }

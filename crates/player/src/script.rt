@@ -1,235 +1,127 @@
 // A line of the script, read: a verb, and as many words after it as it takes.
-use super::code::{Decoded, decode};
+use super::code::decode;
 use super::pages::ROWS;
-use super::{JOURNAL, LENT, Sizes, plus};
-use answer::LARGEST;
+use super::{JOURNAL, LENT, LINE, Sizes};
 use session::Own;
 
-// A call, as a script asks for it. A number of bytes is the place where they end: the words of a line are decoded one after another.
-#[derive(Drop)]
-pub(crate) enum Ask {
-    Own(Own, usize),
+// A call, as a script asks for it.
+#[derive(Clone, Copy)]
+pub(crate) enum Ask<'a> {
+    Own(Own, &'a [u8]),
     Lost,
-    Message(usize, usize),
-    Ledger(Ledger),
-}
-
-// Of the calls, those that need no line.
-#[derive(Drop)]
-pub(crate) enum Ledger {
+    Message(&'a [u8], &'a [u8]),
     Offer,
     Again,
     Ack(u32),
     NewDay,
-    Restart(usize),
+    Restart(&'a [u8]),
 }
 
-// A line of a script, read; `What` is not in the language.
-#[derive(Drop)]
-pub(crate) enum Line {
-    What,
-    Ids(usize, usize),
+// A line of a script.
+#[derive(Clone, Copy)]
+pub(crate) enum Line<'a> {
+    Ids(&'a [u8], &'a [u8]),
     Lend(Sizes),
     Cut(usize),
     Page(usize),
-    Call(Ask),
+    Call(Ask<'a>),
 }
 
-// ---- words and numbers
+// ---- numbers
 
-// The largest number of the language.
-const MOST: u64 = LARGEST as u64;
-
-const NONE: u64 = MOST + 1;
-
-// How many spaces there are.
-fn spaces(s: &[u8]) -> usize {
-    let mut n = 0;
-    let mut i = 0;
-    while i < s.len() {
-        if s[i] == b' ' {
-            n = plus(n, 1);
-        }
-        i += 1;
+// The number that a word of digits is, leading zeros and all.
+fn read_number(word: &[u8]) -> Option<u32> {
+    if word.is_empty() {
+        return None;
     }
-    n
+    word.iter().try_fold(0u32, |n, b| {
+        let digit = char::from(*b).to_digit(10)?;
+        n.checked_mul(10)?.checked_add(digit)
+    })
 }
 
-// The bytes before the first space, and those after it.
-fn first_word(s: &[u8]) -> &[u8] {
-    octet::part(s, 0, octet::until(s, b' '))
-}
-
-fn after_space(s: &[u8]) -> &[u8] {
-    octet::part(s, plus(octet::until(s, b' '), 1), s.len())
-}
-
-// The number that a word of digits is, leading zeros and all; where it is none, or above the largest, a number above that.
-fn read_number(word: &[u8]) -> u64 {
-    if word.len() == 0 {
-        return NONE;
-    }
-    if !octet::all_in(word, b'0', b'9') {
-        return NONE;
-    }
-    let mut n: u64 = 0;
-    let mut i = 0;
-    while i < word.len() {
-        n = and_digit(n, word[i]);
-        i += 1;
-    }
-    n
-}
-
-// A number with a digit after it; once it is above every number of the language it stays there.
-fn and_digit(n: u64, digit: u8) -> u64 {
-    if MOST < n {
-        return n;
-    }
-    if digit < b'0' {
-        return n;
-    }
-    n * 10 + (digit - b'0') as u64
+// A number that is no more than the most.
+fn read_size(word: &[u8], most: usize) -> Option<usize> {
+    let n = read_number(word)? as usize;
+    if n <= most { Some(n) } else { None }
 }
 
 // ---- a verb, by how many words come after it
 
 // A verb alone.
-fn of_no_words(verb: &[u8]) -> Line {
-    if octet::same(verb, b"lost") {
-        return Line::Call(Ask::Lost);
+fn of_no_words<'a>(verb: &[u8]) -> Option<Line<'a>> {
+    match verb {
+        b"lost" => Some(Line::Call(Ask::Lost)),
+        b"offer" => Some(Line::Call(Ask::Offer)),
+        b"again" => Some(Line::Call(Ask::Again)),
+        b"newday" => Some(Line::Call(Ask::NewDay)),
+        _ => None,
     }
-    if octet::same(verb, b"offer") {
-        return Line::Call(Ask::Ledger(Ledger::Offer));
-    }
-    if octet::same(verb, b"again") {
-        return Line::Call(Ask::Ledger(Ledger::Again));
-    }
-    if octet::same(verb, b"newday") {
-        return Line::Call(Ask::Ledger(Ledger::NewDay));
-    }
-    Line::What
 }
 
-// A verb with a number.
-fn ack_of(n: u64) -> Line {
-    if MOST < n {
-        return Line::What;
+// A verb with bytes. A restart with more than the journal has room for is not in the language.
+fn of_bytes<'a>(verb: &[u8], bytes: &'a [u8]) -> Option<Line<'a>> {
+    match verb {
+        b"open" => Some(Line::Call(Ask::Own(Own::Open, bytes))),
+        b"heartbeat" => Some(Line::Call(Ask::Own(Own::Beat, bytes))),
+        b"test" => Some(Line::Call(Ask::Own(Own::Ask, bytes))),
+        b"close" => Some(Line::Call(Ask::Own(Own::Close, bytes))),
+        b"restart" if bytes.len() <= JOURNAL => Some(Line::Call(Ask::Restart(bytes))),
+        _ => None,
     }
-    Line::Call(Ask::Ledger(Ledger::Ack(n as u32)))
-}
-
-fn cut_of(n: u64) -> Line {
-    if MOST < n {
-        return Line::What;
-    }
-    Line::Cut(n as usize)
-}
-
-fn page_of(n: u64) -> Line {
-    if ROWS < n as usize {
-        return Line::What;
-    }
-    Line::Page(n as usize)
-}
-
-// A restart with more bytes than the journal has room for is not in the language.
-fn restart_of(end: usize) -> Line {
-    if JOURNAL < end {
-        return Line::What;
-    }
-    Line::Call(Ask::Ledger(Ledger::Restart(end)))
-}
-
-// A verb with bytes, by the place where they end.
-fn of_bytes(verb: &[u8], end: usize) -> Line {
-    if octet::same(verb, b"open") {
-        return Line::Call(Ask::Own(Own::Open, end));
-    }
-    if octet::same(verb, b"heartbeat") {
-        return Line::Call(Ask::Own(Own::Beat, end));
-    }
-    if octet::same(verb, b"test") {
-        return Line::Call(Ask::Own(Own::Ask, end));
-    }
-    if octet::same(verb, b"close") {
-        return Line::Call(Ask::Own(Own::Close, end));
-    }
-    if octet::same(verb, b"restart") {
-        return restart_of(end);
-    }
-    Line::What
 }
 
 // A verb and one word.
-fn of_one_word(verb: &[u8], word: &[u8], bytes: &mut [u8]) -> Line {
-    if octet::same(verb, b"ack") {
-        return ack_of(read_number(word));
-    }
-    if octet::same(verb, b"cut") {
-        return cut_of(read_number(word));
-    }
-    if octet::same(verb, b"page") {
-        return page_of(read_number(word));
-    }
-    match decode(word, bytes, 0) {
-        Decoded::To(end) => of_bytes(verb, end),
-        Decoded::Bad => Line::What,
+fn of_one_word<'a>(verb: &[u8], word: &[u8], room: &'a mut [u8]) -> Option<Line<'a>> {
+    match verb {
+        b"ack" => Some(Line::Call(Ask::Ack(read_number(word)?))),
+        b"cut" => Some(Line::Cut(read_number(word)? as usize)),
+        b"page" => Some(Line::Page(read_size(word, ROWS)?)),
+        _ => of_bytes(verb, decode(word, room)?.0),
     }
 }
 
-// A verb with two runs of bytes, by the places where they end.
-fn of_two_bytes(verb: &[u8], first: usize, second: usize) -> Line {
-    if octet::same(verb, b"ids") {
-        return Line::Ids(first, second);
-    }
-    if octet::same(verb, b"message") {
-        return Line::Call(Ask::Message(first, second));
-    }
-    Line::What
-}
-
-// A verb and two words.
-fn of_two_words(verb: &[u8], first: &[u8], second: &[u8], bytes: &mut [u8]) -> Line {
-    match decode(first, bytes, 0) {
-        Decoded::To(middle) => match decode(second, bytes, middle) {
-            Decoded::To(end) => of_two_bytes(verb, middle, end),
-            Decoded::Bad => Line::What,
-        },
-        Decoded::Bad => Line::What,
+// A verb and two words, which are bytes.
+fn of_two_words<'a>(
+    verb: &[u8],
+    first: &[u8],
+    second: &[u8],
+    room: &'a mut [u8],
+) -> Option<Line<'a>> {
+    let (first, room) = decode(first, room)?;
+    let (second, _) = decode(second, room)?;
+    match verb {
+        b"ids" => Some(Line::Ids(first, second)),
+        b"message" => Some(Line::Call(Ask::Message(first, second))),
+        _ => None,
     }
 }
 
-// A verb and three words.
-fn of_three_words(verb: &[u8], words: &[u8]) -> Line {
-    if !octet::same(verb, b"lend") {
-        return Line::What;
+// A verb and three words, which are numbers.
+fn of_three_words<'a>(verb: &[u8], reply: &[u8], note: &[u8], line: &[u8]) -> Option<Line<'a>> {
+    match verb {
+        b"lend" => Some(Line::Lend(Sizes {
+            reply: read_size(reply, LENT)?,
+            note: read_size(note, LENT)?,
+            line: read_size(line, LENT)?,
+        })),
+        _ => None,
     }
-    let reply = read_number(first_word(words)) as usize;
-    let rest = after_space(words);
-    let note = read_number(first_word(rest)) as usize;
-    let line = read_number(after_space(rest)) as usize;
-    if LENT < reply {
-        return Line::What;
-    }
-    if LENT < note {
-        return Line::What;
-    }
-    if LENT < line {
-        return Line::What;
-    }
-    Line::Lend(Sizes { reply, note, line })
 }
 
-// Reads a line: a verb, and as many words after it as it takes, each after exactly one space. What it says in bytes is decoded into `bytes`.
-pub(crate) fn read_line(line: &[u8], bytes: &mut [u8]) -> Line {
-    let verb = first_word(line);
-    let words = after_space(line);
-    match spaces(line) {
-        0 => of_no_words(verb),
-        1 => of_one_word(verb, words, bytes),
-        2 => of_two_words(verb, first_word(words), after_space(words), bytes),
-        3 => of_three_words(verb, words),
-        _ => Line::What,
+// Reads a line: a verb, and as many words after it as it takes, each after exactly one space. What it says in bytes is decoded into the room. None: it is
+// not in the language.
+pub(crate) fn read_line<'a>(line: &[u8], room: &'a mut [u8]) -> Option<Line<'a>> {
+    if LINE < line.len() {
+        return None;
+    }
+    let mut words = line.split(|b| *b == b' ');
+    let verb = words.next()?;
+    match (words.next(), words.next(), words.next(), words.next()) {
+        (None, ..) => of_no_words(verb),
+        (Some(word), None, ..) => of_one_word(verb, word, room),
+        (Some(first), Some(second), None, _) => of_two_words(verb, first, second, room),
+        (Some(reply), Some(note), Some(line), None) => of_three_words(verb, reply, note, line),
+        _ => None,
     }
 }

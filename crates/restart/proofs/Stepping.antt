@@ -161,9 +161,6 @@ kept-after m mem (Acks k) l w t =
 kept-after m mem Clears l w t = ap₂ (λ (x : List Slot) (y : List Row). kept 1 1 x y no_load 0 0) (cells-none slot_width (region_of slots_here mem)) (cells-none row_width (region_of rows_here mem))
 
 -- ---- what a step says of the whole restart
-never : {A : Type 0} → ◌≡◌ {A = ℕ} 0 1 → A
-never z = absurd (omega arith)
-
 module _ (m : Counts) (mem s : List ℕ) (at : ℕ) where
   abbrev q : Kept
   q = kept_in m mem
@@ -171,8 +168,8 @@ module _ (m : Counts) (mem s : List ℕ) (at : ℕ) where
   on-by : (next : Counts) (r : Reading) → length mem ≡ book_width → read_note s ≡ r → step.On next ≡ step_read q r
       → (go q at s ≡ go (kept_in next (mem_read mem q r)) (at + size_taken r) (drop (size_taken r) s)) × (size_taken r ≤ length s) × (0 < size_taken r)
   unfolding step_note
-  on-by next Part l e t = never cc
-  on-by next Unknown l e t = never cc
+  on-by next Part l e t = absurd cc
+  on-by next Unknown l e t = absurd cc
   on-by next (Whole note n) l e t =
       let w = read_is s note n e in
       ⊎_elim
@@ -182,7 +179,7 @@ module _ (m : Counts) (mem s : List ℕ) (at : ℕ) where
         w.there,
         some-taken s note n e,
       )))
-      (λ h. never (cc (cond-false (lawful q note) (step.On (counts_of (after q note))) step.Bad h)))
+      (λ h. absurd (cc (cond-false (lawful q note) (step.On (counts_of (after q note))) step.Bad h)))
       (bool_case (lawful q note))
 
   pub on-goes : (next : Counts) → length mem ≡ book_width → step.On next ≡ step_read q (read_note s)
@@ -192,11 +189,11 @@ module _ (m : Counts) (mem s : List ℕ) (at : ℕ) where
   end_by : (r : Reading) → read_note s ≡ r → step.End ≡ step_read q r → (go q at s ≡ Again q at) × (mem_read mem q r ≡ mem)
   unfolding step_note
   end_by Part e t = (go-part q at s e, refl)
-  end_by Unknown e t = never cc
+  end_by Unknown e t = absurd cc
   end_by (Whole note n) e t =
       ⊎_elim
-      (λ h. never (cc (cond-true (lawful q note) (step.On (counts_of (after q note))) step.Bad h)))
-      (λ h. never (cc (cond-false (lawful q note) (step.On (counts_of (after q note))) step.Bad h)))
+      (λ h. absurd (cc (cond-true (lawful q note) (step.On (counts_of (after q note))) step.Bad h)))
+      (λ h. absurd (cc (cond-false (lawful q note) (step.On (counts_of (after q note))) step.Bad h)))
       (bool_case (lawful q note))
 
   pub end_goes : step.End ≡ step_read q (read_note s) → (go q at s ≡ Again q at) × (mem_read mem q (read_note s) ≡ mem)
@@ -204,11 +201,11 @@ module _ (m : Counts) (mem s : List ℕ) (at : ℕ) where
 
   bad-by : (r : Reading) → read_note s ≡ r → step.Bad ≡ step_read q r → go q at s ≡ Unlawful at
   unfolding step_note
-  bad-by Part e t = never cc
+  bad-by Part e t = absurd cc
   bad-by Unknown e t = go-unknown q at s e
   bad-by (Whole note n) e t =
       ⊎_elim
-      (λ h. never (cc (cond-true (lawful q note) (step.On (counts_of (after q note))) step.Bad h)))
+      (λ h. absurd (cc (cond-true (lawful q note) (step.On (counts_of (after q note))) step.Bad h)))
       (λ h. go-bad q at s note n e h)
       (bool_case (lawful q note))
 
@@ -352,10 +349,10 @@ book-is (Again q w) book mem k whole most e g h =
     ap₂ (holding book)
     (ap (λ (x : Counts). slots_in x.last mem) f ∙ h.0)
     (ap (λ (x : Counts). rows_in x.orders mem) f ∙ ap (λ (n : ℕ). rows_in n mem) (sym (rows-many q g.sound)) ∙ h.1)
-book-is (Unlawful at) book mem k whole most e g h = never cc
+book-is (Unlawful at) book mem k whole most e g h = absurd cc
 
 pub book-stays : (o : Outcome) (book : List ℕ) (at : ℕ) → Err at ≡ told o → book ≡ book_after book o
-book-stays (Again q w) book at e = never cc
+book-stays (Again q w) book at e = absurd cc
 book-stays (Unlawful p) book at e = refl
 
 -- and stand there then
@@ -385,5 +382,5 @@ slots-there (Again q w) book book' most g e l =
 slots-there (Unlawful at) book book' most g e l = tt
 
 pub slots-none : (o : Outcome) (mem : List ℕ) (at : ℕ) → Err at ≡ told o → HasDay mem o
-slots-none (Again q w) mem at e = never cc
+slots-none (Again q w) mem at e = absurd cc
 slots-none (Unlawful p) mem at e = tt

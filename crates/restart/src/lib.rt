@@ -183,12 +183,7 @@ fn replay(mem: &mut [u8; BOOK], notes: &[u8]) -> Result<Restarted, usize>
                 m = next;
                 at += first.taken;
             }
-            Step::End => {
-                return Ok(Restarted {
-                    counts: m,
-                    whole: at,
-                });
-            }
+            Step::End => break,
             Step::Bad => return Err(at),
         }
     }

@@ -1,14 +1,14 @@
 -- The kind of a type's bytes: UCC, one byte, and any others.
 use mathlib.Core.Path.{◌≡◌, refl, sym, ap}
 use mathlib.Core.List.{List, [], ◌∷◌}
-use mathlib.Core.Bool.{true, false}
+use mathlib.Core.Bool.{false}
 use Prim.Native.Nat.{ℕ}
 use native.Mathlib.Omega.{arith}
 use lib.ListN.{length, get_or}
 use lib.Dec.{eqb}
 use borrow.Author.Tests.{ne_eqb}
 use Rattle.octet.specs.Bytes.{bytes_of, same, is}
-use Rattle.octet.proofs.Cases.{and-no-right}
+use Rattle.octet.proofs.Cases.{not-true-false, and-no-right}
 use Rattle.octet.proofs.Lists.{same_true, length-differs}
 use Rattle.answer.specs.declared.Setup.{Setup}
 use Rattle.answer.specs.declared.Kind.TheVariants as kind
@@ -20,17 +20,27 @@ only [] e = absurd (omega arith)
 only (b ∷ []) e = refl
 only (b ∷ x ∷ t) e = absurd (omega arith)
 
+three : (t : List ℕ) → length t ≡ 3 → t ≡ get_or t 0 0 ∷ get_or t 1 0 ∷ get_or t 2 0 ∷ []
+three [] e = absurd (omega arith)
+three (a ∷ []) e = absurd (omega arith)
+three (a ∷ b ∷ []) e = absurd (omega arith)
+three (a ∷ b ∷ c ∷ []) e = refl
+three (a ∷ b ∷ c ∷ d ∷ t) e = absurd (omega arith)
+
 module _ (setup : Setup) where
-  pub kind-ucc : (t : List ℕ) → is "UCC" t ≡ true → kind_of setup t ≡ kind.Correction
+  pub kind-ucc : (t : List ℕ) → length t ≡ 3 → get_or t 0 0 ≡ 85 → get_or t 1 0 ≡ 67 → get_or t 2 0 ≡ 67 → kind_of setup t ≡ kind.Correction
   unfolding kind_of
-  kind-ucc t e = ap (kind_of setup) (sym (same_true (bytes_of "UCC") t e))
+  kind-ucc t l a b c = rw (three t l, a, b, c)
 
   -- no other type has more or fewer bytes than one
-  pub kind-long : (t : List ℕ) → is "UCC" t ≡ false → (length t ≡ 1 → ⊥) → kind_of setup t ≡ kind.Unlisted
+  kind-long : (t : List ℕ) → is "UCC" t ≡ false → (length t ≡ 1 → ⊥) → kind_of setup t ≡ kind.Unlisted
   unfolding kind_of
   kind-long t e h =
       let n : (b : ℕ) → same (b ∷ []) t ≡ false = λ b. length-differs (b ∷ []) t (λ p. h (sym p)) in
       rw (n 65, n 48, n 49, n 50, n 52, n 53, n 56, e, n 51, n 106)
+
+  pub kind-other : (t : List ℕ) → (length t ≡ 1 → ⊥) → (length t ≡ 3 → get_or t 0 0 ≡ 85 → get_or t 1 0 ≡ 67 → get_or t 2 0 ≡ 67 → ⊥) → kind_of setup t ≡ kind.Unlisted
+  kind-other t h n = kind-long t (not-true-false (is "UCC" t) (λ e. let q = same_true (bytes_of "UCC") t e in absurd (n (sym (ap length q)) (sym (ap (λ (s : List ℕ). get_or s 0 0) q)) (sym (ap (λ (s : List ℕ). get_or s 1 0) q)) (sym (ap (λ (s : List ℕ). get_or s 2 0) q))))) h
 
   pub kind-one : (t : List ℕ) → length t ≡ 1 → kind_of setup t ≡ kind_of setup (get_or t 0 0 ∷ [])
   kind-one t h = ap (kind_of setup) (only t h)

@@ -160,22 +160,16 @@ pub(crate) fn rows_of(kind: Kind) -> &'static [(Row, usize)]
 pub fn kind_of(setup: Setup, t: &[u8]) -> Kind
     ensures { result ≡ kind_of setup t.now }
 {
-    if octet::same(b"UCC", t) {
-        return Kind::Correction;
-    }
-    if t.len() != 1 {
-        return Kind::Unlisted;
-    }
-    match t[0] {
-        b'A' => Kind::Logon,
-        b'0' => Kind::Heartbeat,
-        b'1' => Kind::Test,
-        b'2' => Kind::Resend,
-        b'4' => Kind::Reset,
-        b'5' => Kind::Logout,
-        b'8' => Kind::Report,
-        b'3' => Kind::Other,
-        b'j' => Kind::Other,
+    match t {
+        b"A" => Kind::Logon,
+        b"0" => Kind::Heartbeat,
+        b"1" => Kind::Test,
+        b"2" => Kind::Resend,
+        b"4" => Kind::Reset,
+        b"5" => Kind::Logout,
+        b"8" => Kind::Report,
+        b"UCC" => Kind::Correction,
+        b"3" | b"j" => Kind::Other,
         _ => Kind::Unlisted,
     }
 }

@@ -1,13 +1,15 @@
 -- Numbers written: decimals with no leading zeros, so many digits, prices; and that what is written reads back.
 --     decimal-small, decimal-large     a number below ten is its digit; any other is the decimal of its tenth, and its last digit
+--     decimals     these two, for the check to find
 --     decimal-ind     what holds of every digit and of one digit more holds of every decimal
 --     decimal-some, decimal-length, decimal-lead, decimal-digits     some digits, at most k below ten to the k, no leading zero, nothing but digits
 --     decimal-back, decimal_injective, decimal-run, decimal-front     read back, and read at the front of what no digit follows
+--     fixed-step, fixeds, tenth, tenths     a digit more in front, and the tenth of a tenth, for the check to find
 --     fixed-length, fixed-digits, fixed_back, fixed-low, fixed-run, fixed-front     the same of so many digits
 --     price-text .. price-back     the whole before the point, the point, four digits after it, and the price from them
 --     decimal-unmarked, fixed-unmarked, price-unmarked     none has the byte that ends a field
-use Rattle.std.proofs.Common.{◌≡◌, ℕ, zero, suc, ◌+◌, ◌-◌, ◌*◌, ◌/◌, ◌%◌, ◌^◌, ◌<◌, ◌≤◌, Bool, true, false, ltb, List, [], ◌∷◌, ◌++◌, length, get_or, take, drop, sym, refl, ap, ◌∙◌, append_assoc, not-suc-le-zero, zero-add, zero-mul, arith, lit<, lit≤, length-append, ltb-false, ltb-true, le-ltb, lt-ltb}
-use native.Mathlib.Nat.{pow-succ'}
+use Rattle.std.proofs.Common.{◌≡◌, ℕ, zero, suc, ◌+◌, ◌-◌, ◌*◌, ◌/◌, ◌%◌, ◌^◌, ◌<◌, ◌≤◌, Bool, true, false, ltb, List, [], ◌∷◌, ◌++◌, length, get_or, take, drop, sym, refl, ap, ◌∙◌, append_assoc, not-suc-le-zero, zero-add, zero-mul, arith, lit<, lit≤, length-append, ltb-false, ltb-true, le-ltb, lt-ltb, add-one, pow-suc}
+use native.Mathlib.Nat.{pow-succ', div-div-eq-div-mul}
 use Rattle.octet.specs.Bytes.{between, all_in, until_byte}
 use Rattle.octet.proofs.Cases.{and_both, and-make}
 use Rattle.octet.proofs.Lists.{is-between, between-low, between-high, all_in-append, until-in}
@@ -48,6 +50,8 @@ unfolding decimal
 decimal-large n h =
     by-large n n h
     ∙ ap (λ (d : List ℕ). d ++ (48 + n % 10) ∷ []) (by-same n (suc (n / 10)) (n / 10) (omega arith) (omega arith))
+
+pub ruleset decimals = (decimal-small, decimal-large)
 
 -- what holds of a digit, and of a number's decimal with one more digit, holds of every decimal
 module _ (P : ℕ → List ℕ → Type 0) (small : (n : ℕ) → n < 10 → P n ((48 + n) ∷ [])) (large : (n : ℕ) (l : List ℕ) → 10 ≤ n → P (n / 10) l → P n (l ++ (48 + n % 10) ∷ [])) where
@@ -120,6 +124,14 @@ decimal-front most k n t h g a b =
 pub fixed-step : (width n : ℕ) → 0 < width → fixed width n ≡ (48 + n / 10 ^ (width - 1) % 10) ∷ fixed (width - 1) n
 fixed-step zero n h = absurd (not-suc-le-zero h)
 fixed-step (suc w) n h = let e : suc w - 1 ≡ w = omega arith in rw e
+
+pub ruleset fixeds = (fixed-step)
+
+-- a tenth of the tenths so far
+pub tenth : (n i r : ℕ) → r ≡ n / 10 ^ i → r / 10 ≡ n / 10 ^ (i + 1)
+tenth n i r h = rw (h, add-one, pow-suc) (div-div-eq-div-mul _ _ _)
+
+pub ruleset tenths = (tenth)
 
 pub fixed-length : (width n : ℕ) → length (fixed width n) ≡ width
 fixed-length = places-length 10 48

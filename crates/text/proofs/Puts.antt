@@ -3,17 +3,22 @@
 --     putting     these, and those of lists that go with them
 --     held_more     what a text holds once more is put to it, cut to the room
 --     held-puts, held-short     what an empty text holds once bytes are put to it, and where they are few
---     puts-fits, puts-length, put_front     bytes for which there is room are written over, there are as many as before, and what is put from the start is the front
---     held-length, take-most, held-front     how much a text holds: a front of its bytes
-use Rattle.std.proofs.Common.{◌≡◌, ℕ, zero, suc, ◌+◌, ◌<◌, ◌≤◌, min, Bool, true, false, cond, ltb, List, [], ◌∷◌, ◌++◌, length, take, set, sym, refl, ap, ◌∙◌, ⊎_elim, append_assoc, append-nil, add-zero, zero-add, add-one, arith, length-append, length-set, length-take, length-take-le, take_all, take-suc-set, ltb-false, ltb-true, lt-ltb}
+--     puts-fits     bytes for which there is room are written over
+--     copied, left     what is copied at once where there is room, and where there is not
+--     take-most, fronts     as many as are asked for, or all
+use Rattle.std.proofs.Common.{◌≡◌, ℕ, zero, suc, ◌+◌, ◌<◌, ◌≤◌, min, Bool, true, false, cond, ltb, List, [], ◌∷◌, ◌++◌, length, take, set, sym, refl, ap, ◌∙◌, ⊎_elim, append_assoc, append-nil, add-zero, zero-add, add-one, arith, length-append, length-set, length-take, length-take-le, take_all, take-suc-set, ltb-false, ltb-true, lt-ltb, leb-true, leb-false}
 use native.Mathlib.Nat.{min-eq_left, min-eq_right}
-use Rattle.octet.specs.Splice.{splice}
+use Rattle.octet.specs.Splice.{splice, fits_at}
 use Rattle.octet.proofs.Cases.{le-or-lt}
-use Rattle.octet.proofs.Lists.{splice-nil, splice-take, splice-then, set-splice}
+use Rattle.octet.proofs.Lists.{splice-nil, splice-then, splice-out, set-splice}
 use lib.ListN.{length-replicate}
 use lib.Seq.{take-length, take-append-le}
-use Rattle.text.specs.Writing.{room, text_with, put1, puts, held, empty}
+use Rattle.text.specs.Writing.{room, put1, puts, held, empty}
 use Rattle.text.specs.declared.Text.{Text}
+
+-- the text of these bytes and this length
+abbrev text_with : List ℕ → ℕ → Text
+text_with b n = record { bytes = b; len = n }
 
 pub puts_none : (t : Text) → puts t [] ≡ t
 unfolding puts
@@ -74,31 +79,14 @@ puts-fits b at (x ∷ xs) e h =
     ∙ ap (λ (d : List ℕ). text_with d (at + 1 + length xs)) (splice-then b at (at + 1) (x ∷ []) xs (omega arith) (omega arith))
     ∙ ap (text_with (splice b at (x ∷ xs))) n
 
--- as many bytes as there were
-one-length : (t : Text) (b : ℕ) → length (put1 t b).bytes ≡ length t.bytes
-one-length t b = by (ltb t.len room) where
-  by : (w : Bool) → length (cond w (text_with (set t.bytes t.len b) (t.len + 1)) t).bytes ≡ length t.bytes
-  by true = length-set t.bytes t.len b
-  by false = refl
+-- what is copied at once where it fits, and where it does not
+pub copied : (t : Text) (s b : List ℕ) → length t.bytes ≡ room → fits_at t.bytes t.len s ≡ true → b ≡ splice t.bytes t.len s → text_with b (t.len + length s) ≡ puts t s
+copied t s b e f h = rw h (sym (puts-fits t.bytes t.len s e (rw e at (leb-true _ _ f))))
 
-pub puts-length : (t : Text) (xs : List ℕ) → length (puts t xs).bytes ≡ length t.bytes
-unfolding puts
-puts-length t [] = refl
-puts-length t (x ∷ xs) = puts-length (put1 t x) xs ∙ one-length t x
+pub left : (t : Text) (s b : List ℕ) → fits_at t.bytes t.len s ≡ false → b ≡ splice t.bytes t.len s → text_with b t.len ≡ t
+left t s b f h = rw (h ∙ splice-out t.bytes t.len s (leb-false _ _ f))
 
--- what is put from the bytes' start
-pub put_front : (b e : List ℕ) (r : ℕ) (xs : List ℕ) → length e ≡ room → length xs ≤ room → text_with e r ≡ puts (text_with b 0) xs → (r ≡ length xs) × (take r e ≡ xs)
-put_front b e r xs l h g =
-    let k : length b ≡ room = sym (ap (λ (t : Text). length t.bytes) g ∙ puts-length (text_with b 0) xs) ∙ l in
-    let f : text_with e r ≡ text_with (splice b 0 xs) (0 + length xs) = g ∙ puts-fits b 0 xs k (omega arith) in
-    let n : r ≡ 0 + length xs = ap (λ (t : Text). t.len) f in
-    (n ∙ zero-add _, ap (λ (t : Text). take t.len t.bytes) f ∙ splice-take b 0 xs (omega arith))
-
--- ---- what a text holds is a front of its bytes
-pub held-length : (t : Text) → length (held t) ≡ min t.len (length t.bytes)
-unfolding held
-held-length t = length-take t.len t.bytes
-
+-- as many as are asked for, or all
 pub take-most : (n : ℕ) (l : List ℕ) → take (min n (length l)) l ≡ take n l
 take-most n l =
     ⊎_elim (λ h. ap (λ (k : ℕ). take k l) (min-eq_left h))
@@ -107,6 +95,4 @@ take-most n l =
     ap (λ (k : ℕ). take k l) (min-eq_right e) ∙ take-length l ∙ sym (take_all n l e))
     (le-or-lt n (length l))
 
-pub held-front : (t : Text) (n : ℕ) → n ≡ length (held t) → take n t.bytes ≡ held t
-unfolding held
-held-front t n h = ap (λ (k : ℕ). take k t.bytes) (h ∙ held-length t) ∙ take-most t.len t.bytes
+pub ruleset fronts = (take-most)

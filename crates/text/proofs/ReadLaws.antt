@@ -1,18 +1,18 @@
 -- Digits read: how many stand at the front of a text, and the number that they write.
---     start, full, past, stop, more     the loop over digits: where it starts, where it ends, and one digit more
+--     start, more     the loop over digits: where it starts, and one digit more
 --     digits_append, digits-below     the number of digits after digits, and that k digits write one below ten to the k
 --     run-append, run-digits     the digits at the front of digits and of what follows them
 --     front-digits     what is read from the front of digits that no digit follows
---     front-in, front_fits     what is read is digits, and fits
-use Rattle.std.proofs.Common.{◌≡◌, ℕ, zero, suc, ◌+◌, ◌-◌, ◌*◌, ◌^◌, ◌<◌, ◌≤◌, min, Bool, true, false, List, [], ◌∷◌, ◌++◌, length, get_or, take, drop, sym, refl, ap, ◌∙◌, add-zero, zero-add, arith, lit<, length-take-le}
-use native.Mathlib.Nat.{min-zero, zero-min, suc-min-suc}
+--     front-in     what is read is digits
+use Rattle.std.proofs.Common.{◌≡◌, ℕ, zero, suc, ◌+◌, ◌-◌, ◌*◌, ◌^◌, ◌<◌, ◌≤◌, min, Bool, true, false, List, [], ◌∷◌, ◌++◌, length, get_or, take, drop, sym, refl, ◌∙◌, add-zero, zero-add, arith, lit<}
+use native.Mathlib.Nat.{suc-min-suc}
 use lib.Seq.{take-append_seam}
 use Rattle.octet.specs.Bytes.{between, all_in}
 use Rattle.octet.specs.Places.{value_of}
 use Rattle.octet.proofs.Cases.{and_both}
-use Rattle.octet.proofs.Lists.{drop-step, drop-done, run-stop, run-most}
-use Rattle.octet.proofs.Places.{value-append, value-split, value-below, below-pow}
-use Rattle.text.specs.Decimal.{digits, digit_run, digits_taken, digits_at_front, Fits}
+use Rattle.octet.proofs.Lists.{drop-step, run-most}
+use Rattle.octet.proofs.Places.{value-append, value-split, value-below}
+use Rattle.text.specs.Decimal.{digits, digit_run, digits_taken, digits_at_front}
 use Rattle.text.specs.declared.Digits.{Digits}
 
 -- ---- the loop over digits: n digits that write v are read, at most k more are read from t
@@ -24,18 +24,6 @@ unfolding digits_at_front
 start most k s h =
     let e : min (k - 0) (digit_run s) ≡ digits_taken most s = omega (arith, run-most 48 57 s) in
     rw (e, zero-add)
-
-none_left : (n v k : ℕ) (t : List ℕ) → min k (digit_run t) ≡ 0 → so_far n v k t ≡ record { len = n; value = v }
-none_left n v k t h = simp (h, add-zero)
-
-pub full : (n v : ℕ) (t : List ℕ) → so_far n v 0 t ≡ record { len = n; value = v }
-full n v t = none_left n v 0 t (zero-min (digit_run t))
-
-pub past : (n v k i : ℕ) (s : List ℕ) → length s ≤ i → so_far n v k (drop i s) ≡ record { len = n; value = v }
-past n v k i s h = rw (drop-done s i h) (none_left n v k [] (min-zero k))
-
-pub stop : (n v k i : ℕ) (s : List ℕ) → i < length s → between 48 57 (get_or s i 0) ≡ false → so_far n v k (drop i s) ≡ record { len = n; value = v }
-stop n v k i s h g = none_left n v k (drop i s) (ap (min k) (run-stop 48 57 s i h g) ∙ min-zero k)
 
 one_more : (n v k b : ℕ) (t : List ℕ) → between 48 57 b ≡ true → so_far n v (suc k) (b ∷ t) ≡ so_far (n + 1) (v * 10 + (b - 48)) k t
 one_more n v k b t g =
@@ -80,12 +68,3 @@ front-in (suc n) (b ∷ s) h = by (between 48 57 b) refl (λ g. front-in n s g) 
   by : (t : Bool) → between 48 57 b ≡ t → (n ≤ digit_run s → all_in 48 57 (take n s) ≡ true) → all_in 48 57 (take (suc n) (b ∷ s)) ≡ true
   by true e ih = let g = rw e at h in rw e (ih (omega arith))
   by false e ih = let g = rw e at h in absurd (omega arith)
-
-pub front_fits : (most : ℕ) (s : List ℕ) → Fits most s (digits_at_front most s)
-unfolding digits_at_front
-front_fits most s =
-    let n = digits_taken most s in
-    let l : n ≤ length s = omega (arith, run-most 48 57 s) in
-    let e : length (take n s) ≡ n = length-take-le n s l in
-    let b : digits (take n s) < 10 ^ length (take n s) = digits-below (take n s) (front-in n s (omega arith)) in
-    record { inside = l; asked = omega arith; short = omega arith; small = below-pow 10 9 (lit< tt) b (omega arith) }

@@ -1,8 +1,7 @@
 -- The sum of bytes.
 --     sum-append, check-append     the sum of two texts, one after the other
---     check-small     the sum modulo 256 is below 256
---     sum_more     the sum of the front of a text, one byte further
-use Rattle.std.proofs.Common.{◌≡◌, ℕ, ◌+◌, ◌%◌, ◌<◌, List, [], ◌∷◌, ◌++◌, length, get_or, take, sym, ap, ◌∙◌, add_assoc, zero-add, add-one, arith, take-suc, fold, add-zero}
+--     fold-check     the sum modulo 256, taken byte by byte
+use Rattle.std.proofs.Common.{◌≡◌, ℕ, ◌+◌, ◌%◌, List, [], ◌∷◌, ◌++◌, fold, sym, ap, ◌∙◌, add_assoc, add-zero, zero-add, arith}
 use Rattle.octet.specs.Bytes.{sum_of}
 use Rattle.text.specs.Decimal.{check_sum}
 
@@ -13,13 +12,6 @@ sum-append (b ∷ s) t = ap (λ (n : ℕ). b + n) (sum-append s t) ∙ sym (add_
 pub check-append : (s t : List ℕ) → check_sum (s ++ t) ≡ (check_sum s + check_sum t) % 256
 check-append s t = rw sum-append (omega arith)
 
-pub check-small : (s : List ℕ) → check_sum s < 256
-check-small s = omega arith
-
-pub sum_more : (s : List ℕ) (i : ℕ) → i < length s → check_sum (take (i + 1) s) ≡ (check_sum (take i s) + get_or s i 0) % 256
-sum_more s i h = rw (add-one, take-suc s i 0 h, sum-append) (omega arith)
-
--- the sum taken byte by byte
 fold-from : (n : ℕ) (s : List ℕ) → fold (λ t b. (t + b) % 256) (n % 256) s ≡ (n + sum_of s) % 256
 fold-from n [] = rw add-zero
 fold-from n (b ∷ s) =

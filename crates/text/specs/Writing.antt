@@ -6,17 +6,13 @@ use Rattle.text.specs.declared.Text.{Text}
 abbrev pub room : ℕ
 room = 512
 
--- the text of these bytes and this length
-abbrev pub text_with : List ℕ → ℕ → Text
-text_with b n = record { bytes = b; len = n }
-
 -- a text with no bytes
 unfoldable pub empty : Text
-empty = text_with (replicate room 0) 0
+empty = record { bytes = replicate room 0; len = 0 }
 
 -- a text with one byte more, or the same where it is full
 abbrev pub put1 : Text → ℕ → Text
-put1 t b = cond (nat_lt t.len room) (text_with (slice_set t.bytes t.len b) (t.len + 1)) t
+put1 t b = cond (nat_lt t.len room) (record { bytes = slice_set t.bytes t.len b; len = t.len + 1 }) t
 
 -- a text with more bytes
 unfoldable pub puts : Text → List ℕ → Text

@@ -59,8 +59,9 @@ const PARTS: u64 = 10000;
 
 const DECIMALS: usize = 4;
 
-// Each of these puts more to the text that it is lent: one array serves many calls, and is not copied.
+// What puts more to a text is lent it: one array serves many calls, and is not copied.
 impl Text {
+    #[tactic(auto, unfolding(crate::specs::Writing::empty))]
     pub fn new() -> Text
         ensures { result ≡ empty }
     {
@@ -70,17 +71,21 @@ impl Text {
         }
     }
 
-    // One byte more.
+    // One byte more. The length is read once, before the byte is written: the compiler cannot tell that the byte is none of
+    // the length's, and would read it again.
+    #[tactic(auto, unfolding(crate::specs::Writing::puts))]
     pub fn put(&mut self, x: u8)
         ensures { self.new ≡ puts self.old (x ∷ []) }
     {
-        if self.len < ROOM {
-            self.bytes[self.len] = x;
-            self.len += 1;
+        let len = self.len;
+        if len < ROOM {
+            self.bytes[len] = x;
+            self.len = len + 1;
         }
     }
 
     // The bytes of s one by one, as far as there is room.
+    #[tactic(auto, using(crate::proofs::Puts::putting))]
     fn each(&mut self, s: &[u8])
         ensures { self.new ≡ puts self.old s.now }
     {
@@ -93,14 +98,16 @@ impl Text {
     pub fn all(&mut self, s: &[u8])
         ensures { self.new ≡ puts self.old s.now }
     {
-        if copy_into(&mut self.bytes, self.len, s) {
-            self.len += s.len();
+        let len = self.len;
+        if copy_into(&mut self.bytes, len, s) {
+            self.len = len + s.len();
         } else {
             self.each(s);
         }
     }
 
     // The first n bytes of s more, or all of s where it has fewer.
+    #[tactic(auto, using(crate::proofs::Puts::fronts))]
     pub fn part(&mut self, s: &[u8], n: usize)
         ensures { self.new ≡ puts self.old (take n s.now) }
     {
@@ -108,6 +115,7 @@ impl Text {
     }
 
     // A number of any length: those before its last digit are the digits of n / 10.
+    #[tactic(auto, using(crate::proofs::Puts::putting, crate::proofs::Decimals::decimals))]
     fn digits(&mut self, n: u64)
         ensures { self.new ≡ puts self.old (decimal n) }
     {
@@ -119,6 +127,7 @@ impl Text {
 
     // A number more, "no leading zeros". A tag, like most numbers, has one to three digits: these are put one by one, so that
     // the compiler knows the digits of each tag that stands in the code.
+    #[tactic(auto, using(crate::proofs::Puts::putting, crate::proofs::Decimals::decimals))]
     pub fn decimal(&mut self, n: u64)
         ensures { self.new ≡ puts self.old (decimal n) }
     {
@@ -136,6 +145,7 @@ impl Text {
     }
 
     // The lowest `width` digits of a number more, leading zeros among them.
+    #[tactic(auto, using(crate::proofs::Puts::putting, crate::proofs::Decimals::fixeds))]
     pub fn fixed(&mut self, width: usize, n: u64)
         ensures { self.new ≡ puts self.old (fixed width n) }
     {
@@ -194,6 +204,7 @@ impl Text {
     }
 
     // What it holds.
+    #[tactic(auto, using(crate::proofs::Puts::fronts), unfolding(crate::specs::Writing::held))]
     pub fn held(&self) -> &[u8]
         ensures { result.now ≡ held self.now }
     {
@@ -221,6 +232,7 @@ fn last_digit(n: u64) -> u8
 }
 
 // The digit of n that has k digits after it.
+#[tactic(auto, using(crate::proofs::Decimals::tenths))]
 fn digit_of(n: u64, k: usize) -> u8
     ensures { result ≡ 48 + n / 10 ^ k % 10 }
 {

@@ -115,16 +115,13 @@ pub totals-is : (book notes : List ℕ) → length notes ≤ longest_file → to
 unfolding totals_of
 totals-is book notes h = cond-false (is_too_long notes) too_long (totals_for (book_listed book notes) (restart notes)) (le-ltb longest_file (length notes) h)
 
-never : {A : Type 0} → ◌≡◌ {A = ℕ} 0 1 → A
-never z = absurd (omega arith)
-
 pub again-is : (o : Outcome) (k : Counts) (len : ℕ) (book : List ℕ) → Ok k ≡ day_by len o → totals_in (marks_from k) book ≡ totals_for book o
-again-is (Unlawful at) k len book e = never cc
+again-is (Unlawful at) k len book e = absurd cc
 again-is (Again q w) k len book e = let f : k ≡ counts_of q = cc in ap (λ (x : Counts). totals_in (marks_from x) book) f
 
 -- of a file that keeps no day, the line that says so
 damaged-for : (o : Outcome) (len r : ℕ) (book : List ℕ) → Err r ≡ day_by len o → said_by o ≡ totals_for book o
-damaged-for (Again q w) len r book e = never cc
+damaged-for (Again q w) len r book e = absurd cc
 damaged-for (Unlawful p) len r book e = refl
 
 pub unfound-for : (notes : List ℕ) (len r : ℕ) (book : List ℕ) → Err r ≡ day_of notes len → said_of notes ≡ totals_of book notes

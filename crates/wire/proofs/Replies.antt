@@ -1,6 +1,6 @@
 -- What writes come to, taken together.
 --     sent-fits     where a message ends, where there is room for it
---     replied-no, replied-none, replied-one, replied-two     a reply, by its case
+--     replied-no, replied-none, replied-one, replied-two     a reply, by its case; `replies` are those of one message or none
 --     replied-full, replied-inside     what a caller has: the reply where the buffer has 512 bytes, and an end inside the buffer
 use mathlib.Core.Path.{◌≡◌, refl, sym, ap, ◌∙◌}
 use mathlib.Core.Logic.{⊎_elim}
@@ -56,3 +56,6 @@ replied-inside {old} {new} {m} {r} w =
     (λ h. omega (arith, w.short))
     (λ h. omega (arith, w.end ∙ cond-true (ltb (length old) reply_room) 0 (length m) (lt-ltb _ _ h)))
     (le-or-lt reply_room (length old))
+
+-- a reply of one message or none, for the check to find
+pub ruleset replies = (replied-no, replied-none, replied-one)

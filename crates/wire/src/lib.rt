@@ -184,12 +184,12 @@ fn with_others(t: &mut Text, o: u32, word: &[u8], say: Say)
     }
 }
 
-// The message with this opening and this body.
-fn frame(opening: &[u8], body: &[u8]) -> Text
-    requires { length opening.now + length body.now ≤ 400 }
-    ensures { result ≡ puts empty (framed opening.now body.now) }
+// The message with this opening and this body, put to a text that is new: its sum is of all that the text holds.
+fn frame(t: &mut Text, opening: &[u8], body: &[u8])
+    requires fresh { t.old ≡ empty }
+    requires short { length opening.now + length body.now ≤ 400 }
+    ensures { t.new ≡ puts empty (framed opening.now body.now) }
 {
-    let mut t = Text::new();
     t.all(opening);
     t.number(9, body.len() as u32);
     t.all(body);
@@ -197,7 +197,6 @@ fn frame(opening: &[u8], body: &[u8]) -> Text
     t.all(b"10=");
     t.fixed(3, u64::from(total));
     t.put(BAR);
-    t
 }
 
 // Writes a message into reply at a place, and says where it ends; where it does not fit, nothing.
@@ -216,10 +215,13 @@ pub fn write(
     lead(&mut body, setup, o, say);
     with_date(&mut body, time, say);
     with_others(&mut body, o, word, say);
-    frame(&OPENING, body.held()).place(reply, at)
+    let mut message = Text::new();
+    frame(&mut message, &OPENING, body.held());
+    message.place(reply, at)
 }
 
 // Writes the messages of a reply from the buffer's start, and says where they end; nothing into a buffer under 512 bytes.
+#[tactic(auto, using(crate::proofs::Replies::replies), unfolding(crate::specs::Messages::reply_of))]
 pub fn write_reply(
     setup: Setup,
     o: u32,

@@ -1,6 +1,7 @@
 use Rattle.fill.specs.Slot.{slot_width}
-use Rattle.book.specs.Memory.{most_slots}
-use mathlib.Core.Path.{sym, ap, ◌∙◌}
+use Rattle.book.specs.Memory.{most_slots, fits_after}
+use mathlib.Core.Path.{◌≡◌, sym, ap, ◌∙◌}
+use mathlib.Core.Bool.{false}
 use native.Mathlib.Omega.{arith}
 use borrow.Author.Tests.{eq-eqb, ne_eqb, le-ltb, lt-ltb}
 use lib.ListN.{length}
@@ -12,17 +13,16 @@ use Rattle.octet.proofs.Cases.{and-make, and-no-left, and-no-right}
 use Rattle.octet.proofs.Lists.{fits-true}
 use Rattle.book.proofs.Regions.{appended-in, appended-out}
 use Rattle.book.proofs.append.Goals as goal
+use Rattle.book.proofs.append.Goals.{then-count-ge-SLOTS-via-then-count-ge-SLOTS, then-count-ge-SLOTS-via-else-count-ge-SLOTS+then-slot-ne-SLOT}
 
 pub returns-then-count-ge-SLOTS : goal.returns-then-count-ge-SLOTS
 returns-then-count-ge-SLOTS c =
     let a = c.args in
-    let e = and-no-left (ltb a.count most_slots) (eqb (length a.slot.now) slot_width) (le-ltb a.count most_slots (omega arith)) in
-    (sym e, sym (appended-out a.book.now a.count a.slot.now e))
-
-pub returns-then-slot-ne-SLOT : goal.returns-then-slot-ne-SLOT
-returns-then-slot-ne-SLOT c =
-    let a = c.args in
-    let e = and-no-right (ltb a.count most_slots) (eqb (length a.slot.now) slot_width) (ne_eqb _ _ c.if-slot-ne-SLOT.true) in
+    let e : fits_after a.count a.slot.now ≡ false =
+    elim c.then-count-ge-SLOTS.branch [
+      | then-count-ge-SLOTS-via-then-count-ge-SLOTS w ↦ and-no-left (ltb a.count most_slots) (eqb (length a.slot.now) slot_width) (le-ltb a.count most_slots (omega arith))
+      | then-count-ge-SLOTS-via-else-count-ge-SLOTS+then-slot-ne-SLOT w ↦ and-no-right (ltb a.count most_slots) (eqb (length a.slot.now) slot_width) (ne_eqb _ _ w.if-slot-ne-SLOT.true)
+    ] in
     (sym e, sym (appended-out a.book.now a.count a.slot.now e))
 
 pub returns : goal.returns

@@ -8,6 +8,7 @@ use lib.ListN.{length}
 use mathlib.Core.Path.{sym, ◌∙◌}
 use Rattle.book.proofs.Regions.{appended-out}
 use Rattle.book.proofs.enter.Goals as goal
+use Rattle.book.proofs.enter.Goals.{else-append-via-then-append+else-is_fill, else-append-via-else-append}
 
 pub more_in_row-requires : goal.more_in_row-requires
 more_in_row-requires c =
@@ -22,16 +23,12 @@ returns-then-is_fill c =
     let fill = sym c.is_fill.ensures ∙ c.if-is_fill.true in
     entered-fill a.book.now a.count a.orders a.row a.slot.now fits fill c.append.ensures.1 c.more_in_row.ensures
 
-pub returns-else-is_fill : goal.returns-else-is_fill
-returns-else-is_fill c =
-    let a = c.args in
-    let fits = sym c.append.ensures.0 ∙ c.if-append.true in
-    let other = sym c.is_fill.ensures ∙ c.if-is_fill.false in
-    entered-other a.book.now a.count a.orders a.row a.slot.now fits other c.append.ensures.1
-
 pub returns-else-append : goal.returns-else-append
 returns-else-append c =
     let a = c.args in
-    let fits = sym c.append.ensures.0 ∙ c.if-append.false in
-    c.append.ensures.1 ∙ appended-out a.book.now a.count a.slot.now fits
-    ∙ entered-none a.book.now a.count a.orders a.row a.slot.now fits
+    elim c.else-append.branch [
+      | else-append-via-then-append+else-is_fill w ↦
+          entered-other a.book.now a.count a.orders a.row a.slot.now (sym c.append.ensures.0 ∙ w.if-append.true) (sym w.is_fill.ensures ∙ w.if-is_fill.false) c.append.ensures.1
+      | else-append-via-else-append w ↦ (let fits = sym c.append.ensures.0 ∙ w.if-append.false in
+          c.append.ensures.1 ∙ appended-out a.book.now a.count a.slot.now fits ∙ entered-none a.book.now a.count a.orders a.row a.slot.now fits)
+    ]

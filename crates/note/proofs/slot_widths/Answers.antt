@@ -9,5 +9,5 @@ use Rattle.note.proofs.slot_widths.Goals as goal
 pub returns-then-mark-eq-IS_ENTRY : goal.returns-then-mark-eq-IS_ENTRY
 returns-then-mark-eq-IS_ENTRY c = sym (cond-true _ entry_widths widths (eq-eqb c.args.mark entry_mark c.if-mark-eq-IS_ENTRY.true))
 
-pub returns : goal.returns
-returns c = sym (cond-false _ entry_widths widths (ne_eqb c.args.mark entry_mark c.if-mark-eq-IS_ENTRY.false))
+pub returns-else-mark-eq-IS_ENTRY : goal.returns-else-mark-eq-IS_ENTRY
+returns-else-mark-eq-IS_ENTRY c = sym (cond-false _ entry_widths widths (ne_eqb c.args.mark entry_mark c.if-mark-eq-IS_ENTRY.false))

@@ -69,8 +69,8 @@ returns-in-Bad c =
     let g = turn-bad l _ (restart l) c.loop-at.m c.loop-at.mem st.new.mem i (part-rest l i) v.0 (sym c.in-Bad.is ∙ st.ensures.0) in
     (g.0, g.1, ap length st.ensures.1 ∙ mem-length c.loop-at.mem (kept_in c.loop-at.m c.loop-at.mem) (read_note _) ∙ v.2)
 
-pub returns : goal.returns
-returns c =
+pub returns-after-loop-at : goal.returns-after-loop-at
+returns-after-loop-at c =
     let l = c.args.notes.now in
     let g = turns-done l (restart l) c.loop-at.m c.loop-at.mem c.loop-at.at c.loop-at.invariant.0 (omega arith) in
     (g.0, g.1, c.loop-at.invariant.2)

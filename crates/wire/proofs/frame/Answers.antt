@@ -14,7 +14,7 @@ returns c =
     let b = c.args.body.now in
     let h = headed o b in
     let fits : length h ≤ 512 = omega (arith, headed-length o b (omega (arith, c.requires)), c.requires) in
-    let whole : c.all-2.new.self ≡ puts empty h = simp (c.all-2.ensures, c.number.ensures, c.all.ensures, c.new-t.ensures, puts-puts, append_assoc) in
+    let whole : c.all-2.new.self ≡ puts empty h = simp (c.all-2.ensures, c.number.ensures, c.all.ensures, c.requires.fresh, puts-puts, append_assoc) in
     let sum : c.from.result ≡ check_sum h =
     c.from.ensures ∙ c.byte_sum-total.ensures ∙ ap check_sum (c.held.ensures ∙ ap held whole ∙ held-short h fits) in
     simp (c.put.ensures, c.fixed.ensures, c.all-3.ensures, sum, whole, puts-puts, append_assoc)

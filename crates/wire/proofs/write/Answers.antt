@@ -34,17 +34,19 @@ module _ (s : Setup) (o : ℕ) (time word : List ℕ) (say : Say) where
       let short : length (framed opening Body) ≤ 224 = omega (arith, framed-length opening Body (omega (arith, e.1)), e.1) in
       (ap held p ∙ rw e.0 (held-short (framed opening Body) (omega arith)), short)
 
-pub frame-requires : goal.frame-requires
-frame-requires c =
+pub frame-requires-clause-short : goal.frame-requires-clause-short
+frame-requires-clause-short c =
     let a = c.args in
-    let b = body a.setup a.o a.time.now a.word.now a.say _ _ _ _ (search rules) (search rules) (omega arith) c.new-body.ensures c.lead.ensures c.with_date.ensures c.with_others.ensures in
+    let b = body a.setup a.o a.time.now a.word.now a.say _ _ _ _ (search rules) (search rules) (omega arith)
+    c.new-body.ensures c.lead.ensures c.with_date.ensures c.with_others.ensures in
     rw (c.held.ensures ∙ b.0) (omega (arith, b.1))
 
 pub returns : goal.returns
 unfolding message_of
 returns c =
     let a = c.args in
-    let b = body a.setup a.o a.time.now a.word.now a.say _ _ _ _ (search rules) (search rules) (omega arith) c.new-body.ensures c.lead.ensures c.with_date.ensures c.with_others.ensures in
+    let b = body a.setup a.o a.time.now a.word.now a.say _ _ _ _ (search rules) (search rules) (omega arith)
+    c.new-body.ensures c.lead.ensures c.with_date.ensures c.with_others.ensures in
     let m = message a.setup a.o a.time.now a.word.now a.say _ _ (c.held.ensures ∙ b.0, b.1) c.frame.ensures in
     record {
       bytes = rw m.0 at c.place.ensures.dst_after;

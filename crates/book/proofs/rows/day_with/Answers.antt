@@ -13,9 +13,9 @@ returns-then-is_fill c =
     let fill = sym c.is_fill.ensures ∙ c.if-is_fill.true in
     c.count_on.ensures ∙ ap (counted a.day) c.shares_of.ensures ∙ sym (cond-true (is_fill s) (counted a.day (shares_of s)) a.day fill)
 
-pub returns : goal.returns
+pub returns-else-is_fill : goal.returns-else-is_fill
 unfolding day_with
-returns c =
+returns-else-is_fill c =
     let a = c.args in
     let s = a.slot.now in
     sym (cond-false (is_fill s) (counted a.day (shares_of s)) a.day (sym c.is_fill.ensures ∙ c.if-is_fill.false))
