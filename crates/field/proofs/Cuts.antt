@@ -21,7 +21,7 @@ use Rattle.octet.proofs.Cases.{le-or-lt}
 use Rattle.octet.proofs.Lists.{drop-done, length_part, part-drop, until-most, drop-take}
 use Rattle.text.specs.Decimal.{digit_run}
 use Rattle.field.specs.Pieces.{Pieces, on_first, pieces_of, tagged, tag_of, value_after, valued, carries, values_of, text_at, piece_scan, Scan, sound, scan_of, and_then}
-use Rattle.field.specs.Stands.{Piece, field, Place, At, Missing, piece_at, located, or_here, place_from, place_of, step_of, piece_fault, hits}
+use Rattle.field.specs.Stands.{Piece, field, rest_at, Place, At, Missing, piece_at, located, or_here, place_from, place_of, step_of, piece_fault, hits}
 use Rattle.field.specs.declared.Unsound.TheVariants.{Malformed, Empty}
 use Rattle.field.specs.declared.Step.{Step}
 
@@ -77,9 +77,6 @@ cut body i p ps e = by (drop i body) refl
         }
 
 -- ---- the walk
-abbrev pub rest_at : List ℕ → ℕ → List Piece
-rest_at body i = located i (pieces_of (drop i body))
-
 pub rest_end : (body : List ℕ) (i : ℕ) → length body ≤ i → rest_at body i ≡ []
 unfolding located pieces_of
 rest_end body i h = rw (drop-done body i h)
@@ -103,20 +100,9 @@ rest-step body i h =
     ∙ ap (λ (m : ℕ). piece_at i (take n s) ∷ rest_at body (i + m + 1)) l
     ∙ ap (λ (gs : List Piece). piece_at i (take n s) ∷ gs) (rest-min body (i + n + 1))
 
--- a step of the walk: the piece, the pieces after it, and that it goes on inside the body
-pub record Stepped (body : List ℕ) (i : ℕ) (r : Step) : Type 0 where
-  pub cuts : rest_at body i ≡ r.piece ∷ rest_at body r.next
-  pub on : i < r.next
-  pub inside : r.next ≤ length body
-
-pub stepped : (body : List ℕ) (i : ℕ) (r : Step) → i < length body → r ≡ step_of i body → Stepped body i r
-unfolding step_of
-stepped body i r h e =
-    record {
-      cuts = rest-step body i h ∙ ap (λ (x : Step). x.piece ∷ rest_at body x.next) (sym e);
-      on = rw e (omega arith);
-      inside = rw e (omega arith);
-    }
+-- a step of the walk: the piece, and the pieces after it
+pub stepped : (body : List ℕ) (i : ℕ) {r : Step} → i < length body → r ≡ step_of i body → rest_at body i ≡ r.piece ∷ rest_at body r.next
+stepped body i h e = rest-step body i h ∙ ap (λ (x : Step). x.piece ∷ rest_at body x.next) (sym e)
 
 -- ---- a value stands where it is said to stand
 abbrev pub part_by : List ℕ → Place → List ℕ

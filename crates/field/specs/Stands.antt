@@ -23,6 +23,10 @@ unfoldable pub located : ℕ → Pieces → List Piece
 located at [] = []
 located at (p ∷ ps) = let rest = located (at + length p + 1) ps in piece_at at p ∷ rest
 
+-- those from a place of a body on
+abbrev pub rest_at : List ℕ → ℕ → List Piece
+rest_at body i = located i (pieces_of (drop i body))
+
 -- ---- the pieces of one tag
 
 -- where a value stands and how long it is, or that there is none

@@ -7,7 +7,8 @@ ghost use Rattle.frame.specs.Finding.{skip_of, trailer_of, type_ok, body_ok, jud
 
 use answer::BAR;
 
-// What stands at the front: nothing yet, since bytes are missing; no message, with the bytes to skip; a message, with its length.
+// What stands at the front: nothing yet, since bytes are missing; no message, with the bytes to skip; a message, with its length. It stays an enum of three:
+// each is an answer of its own, and none is the error of another.
 #[derive(Clone, Copy)]
 pub enum Found {
     More,
