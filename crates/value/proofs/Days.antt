@@ -1,15 +1,14 @@
--- Days and clocks: how large their numbers are.
+-- Days: how large their numbers are.
 use mathlib.Core.Path.{◌≡◌}
-use mathlib.Core.Bool.{true, false, ◌||◌, ◌&&◌}
+use mathlib.Core.Bool.{true, false, ◌||◌}
 use mathlib.Core.Option.{Option, none, some}
 use Prim.Native.Nat.{ℕ, ◌/◌, ◌%◌, ◌≤◌, ◌<◌}
 use native.Mathlib.Omega.{arith}
-use lib.Dec.{leb, eqb}
-use borrow.Author.Tests.{leb-true}
+use lib.Dec.{eqb}
 use Rattle.octet.specs.Bytes.{between}
 use Rattle.octet.proofs.Cases.{not-true-false, of-cond, and_both}
 use Rattle.octet.proofs.Lists.{is-above, between-high}
-use Rattle.value.specs.Value.{leap, days_in, is_day, day_fits, is_clock}
+use Rattle.value.specs.Value.{leap, days_in, is_day, day_fits}
 
 pub days-most : (y m : ℕ) → days_in y m ≤ 31
 unfolding days_in
@@ -29,9 +28,3 @@ pub no-day : (month : Option ℕ) (d : ℕ) → 31 < d → day_fits month d ≡ 
 unfolding day_fits
 no-day none d h = is-above 1 31 d h
 no-day (some month) d h = not-true-false (is_day (month / 100) (month % 100) d) (λ e. omega (arith, (day-below (month / 100) (month % 100) d e).1))
-
-pub clock-below : (h m s : ℕ) → is_clock h m s ≡ true → (h ≤ 23) × (m ≤ 59) × (s ≤ 59)
-clock-below h m s e =
-    let p = and_both (leb h 23 && leb m 59) (leb s 59) e in
-    let q = and_both (leb h 23) (leb m 59) p.0 in
-    (leb-true h 23 q.0, leb-true m 59 q.1, leb-true s 59 p.1)

@@ -10,15 +10,15 @@ use mathlib.Core.Logic.{◌⊎◌, ⊎_elim, inl, inr}
 use mathlib.Core.List.{List, [], ◌∷◌, ◌++◌}
 use mathlib.Core.Option.{Option, none, some}
 use mathlib.Core.Bool.{Bool, true, false, cond, ◌&&◌}
-use Prim.Native.Nat.{ℕ, ◌+◌, ◌-◌, ◌*◌, ◌≤◌, ◌<◌}
+use Prim.Native.Nat.{ℕ, ◌+◌, ◌*◌, ◌≤◌}
 use native.Mathlib.Omega.{arith}
 use lib.ListN.{length, length-append, get_or}
 use lib.Dec.{eqb}
 use borrow.Author.Tests.{eqb-true, eq-eqb}
-use Rattle.octet.specs.Bytes.{bytes_of, between, part, all_in}
+use Rattle.octet.specs.Bytes.{bytes_of, between, all_in}
 use Rattle.octet.specs.Maybe.{is_none}
 use Rattle.octet.proofs.Cases.{of-cond, contrary, cond-true, and_both, and-make, or_cases}
-use Rattle.octet.proofs.Lists.{part-first, drop-step}
+use Rattle.octet.proofs.Lists.{part-first}
 use Rattle.text.specs.Decimal.{digits}
 use Rattle.value.specs.Value.{well_formed, like_run, time_pattern, time_long, bad_time, is_day, is_clock, number_on, time_fits, is_time}
 use Rattle.value.specs.Plain.{like_from, two_digits, pair_on, PlainDay, PlainClock}
@@ -51,17 +51,7 @@ pub time-ranged : (v : List ℕ) → bad_time v ≡ none → time_checked v ≡ 
 unfolding time_checked
 time-ranged v e = ap (λ (o : Option ℕ). checked o (time_fits v)) e
 
--- ---- the number of two digits, and of four, from their bytes
-module _ (v : List ℕ) (at : ℕ) where
-  pair-part : at + 2 ≤ length v → part at 2 v ≡ get_or v at 0 ∷ get_or v (at + 1) 0 ∷ []
-  pair-part h =
-      let a : at < length v = omega arith in
-      let b : at + 1 < length v = omega arith in
-      rw (drop-step v at a, drop-step v (at + 1) b)
-
-  pub pair-at : at + 2 ≤ length v → (get_or v at 0 - 48) * 10 + (get_or v (at + 1) 0 - 48) ≡ number_on at 2 v
-  pair-at h = sym (ap digits (pair-part h) ∙ omega arith)
-
+-- ---- the number of four digits, from those of two and two
 pub year-at : (v : List ℕ) → 4 ≤ length v → number_on 0 2 v * 100 + number_on 2 2 v ≡ number_on 0 4 v
 year-at [] h = absurd (omega arith)
 year-at (a ∷ []) h = absurd (omega arith)
@@ -116,9 +106,6 @@ unfolding bad_time
 time-lengths v e =
     ⊎_elim (λ p. inl (eqb-true (length v) 17 p)) (λ p. inr (eqb-true (length v) 21 p))
     (or_cases (eqb (length v) 17) (eqb (length v) 21) (form-good v (like_run time_pattern v) (time_long (length v)) e).1)
-
-pub time-least : (v : List ℕ) → bad_time v ≡ none → 17 ≤ length v
-time-least v e = ⊎_elim (λ p. omega arith) (λ p. omega arith) (time-lengths v e)
 
 pub record TimeGood (v : List ℕ) : Type 0 where
   pub formed : bad_time v ≡ none
