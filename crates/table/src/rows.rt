@@ -6,8 +6,6 @@ use super::{Codes, Form, Range, Row, Where};
 use answer::{Kind, Setup};
 use field::columns;
 
-// The rows of a type are taken in order, each with the column that its tag has in a body's index: so no tag is looked up.
-
 // "all: 52 UTC time; optional 43, 97: Y or N".
 const SENT: Row = Row::Needs(52, Form::Time, Where::Always);
 
@@ -86,6 +84,7 @@ const FILLING: Row = Row::May(123, Form::Code(Codes::YesNo), Where::Always);
 
 const TO: Row = Row::Needs(36, Form::Number(Range::Of(1, 999_999_999)), Where::Always);
 
+// The tables. The rows of a type are taken in order, each with the column that its tag has in a body's index: so no tag is looked up.
 pub(crate) static HEADER_ROWS: [(Row, usize); 3] = [
     (SENT, columns::SENT),
     (AGAIN, columns::AGAIN),
