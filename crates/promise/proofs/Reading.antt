@@ -28,10 +28,9 @@ use Rattle.frame.specs.Finding.{opening, found_in, body_in}
 use Rattle.frame.specs.declared.Found.TheVariants as found
 use Rattle.frame.proofs.Bodies.{body-parts}
 use Rattle.frame.proofs.Sound.{sound}
-use Rattle.field.specs.Pieces.{Pieces, on_first, pieces_of, tagged, valued, carries, values_of, text_at, piece_scan, and_then, scan_of}
+use Rattle.field.specs.Pieces.{Scan, Pieces, on_first, pieces_of, tagged, valued, carries, values_of, text_at, piece_scan, and_then, scan_of}
 use Rattle.field.specs.Look.{Look, look_of}
-use Rattle.field.specs.declared.Scan.{Scan}
-use Rattle.field.specs.declared.Scan.TheVariants as scan
+use Rattle.field.specs.declared.Unsound.TheVariants.{Malformed, Empty}
 use Rattle.field.proofs.Cuts.{pieces-mark}
 use Rattle.answer.specs.Setup.{id_of, id_with, ours, theirs}
 use Rattle.answer.specs.Numbers.{inside, fault}
@@ -46,14 +45,13 @@ use Rattle.table.specs.declared.Row.{Row}
 use Rattle.table.specs.declared.Row.TheVariants as row
 use Rattle.table.specs.declared.Given.{Given}
 use Rattle.table.specs.declared.Form.{Form}
-use Rattle.value.specs.declared.Check.{Check}
-use Rattle.value.specs.declared.Check.TheVariants as check
+use Rattle.value.specs.declared.Flaw.{Flaw}
+use Rattle.value.specs.declared.Flaw.TheVariants as flaw
 use Rattle.table.specs.Place.{Misformed}
 use Rattle.table.proofs.Place.{misformed, at-inside}
 use Rattle.wire.specs.Reading.{Clear}
 use Rattle.receiver.specs.Receiver.{good_id, setup_with, setting_up, bad_given}
 use Rattle.std.specs.Prelude.{Result, Ok, Err}
-use Rattle.answer.specs.declared.Refusal.{Refusal}
 use Rattle.answer.specs.declared.Refusal.TheVariants as refusal
 use Rattle.promise.specs.WrittenRead.{Granted}
 
@@ -219,9 +217,9 @@ or-small none q h k = k
 or-small (some f) q h k = h
 
 abbrev SmallScan : Scan → Type 0
-SmallScan scan.Sound = Unit {0}
-SmallScan scan.Malformed = Unit {0}
-SmallScan (scan.Empty tag) = tag < 10 ^ 5
+SmallScan (Ok u) = Unit {0}
+SmallScan (Err Malformed) = Unit {0}
+SmallScan (Err (Empty tag)) = tag < 10 ^ 5
 
 -- a tag has 1 to 5 digits
 piece-small : (p : List ℕ) → SmallScan (piece_scan p)
@@ -236,9 +234,9 @@ piece-small p =
     (λ _. tt)
 
 then-small : (a b : Scan) → SmallScan a → SmallScan b → SmallScan (and_then a b)
-then-small scan.Sound b h k = k
-then-small scan.Malformed b h k = tt
-then-small (scan.Empty tag) b h k = h
+then-small (Ok u) b h k = k
+then-small (Err Malformed) b h k = tt
+then-small (Err (Empty tag)) b h k = h
 
 scan-small : (ps : Pieces) → SmallScan (scan_of ps)
 unfolding scan_of
@@ -246,9 +244,9 @@ scan-small [] = tt
 scan-small (p ∷ ps) = then-small (piece_scan p) (scan_of ps) (piece-small p) (scan-small ps)
 
 scanned-small : (c : Scan) → SmallScan c → SmallIf (scan_fault c)
-scanned-small scan.Sound h = tt
-scanned-small scan.Malformed h = (omega arith, omega arith)
-scanned-small (scan.Empty tag) h = (h, omega arith)
+scanned-small (Ok u) h = tt
+scanned-small (Err Malformed) h = (omega arith, omega arith)
+scanned-small (Err (Empty tag)) h = (h, omega arith)
 
 -- the tags of the table
 abbrev small_rows : List Row → Bool
@@ -268,10 +266,10 @@ kind-small setup phase kind.Correction = (tt, refl)
 kind-small setup phase kind.Other = (tt, refl)
 kind-small setup phase kind.Unlisted = ((omega arith, omega arith), refl)
 
-check-small : (tag : ℕ) (c : Check) → tag < 10000 → SmallIf (check_fault tag c)
-check-small tag check.Good h = tt
-check-small tag (check.BadForm at) h = (omega arith, omega arith)
-check-small tag check.OutOfRange h = (omega arith, omega arith)
+check-small : (tag : ℕ) (c : Result Unit Flaw) → tag < 10000 → SmallIf (check_fault tag c)
+check-small tag (Ok u) h = tt
+check-small tag (Err (flaw.Form at)) h = (omega arith, omega arith)
+check-small tag (Err flaw.Range) h = (omega arith, omega arith)
 
 tag_small : (given : Given) (look : Look) (tag : ℕ) (needed : Bool) (form : Form) → tag < 10000 → SmallIf (tag_fault given look tag needed form)
 unfolding tag_fault

@@ -24,9 +24,9 @@ use Rattle.book.proofs.Stored.{Fits, orders-once, map-alike, first-there, head-r
 use Rattle.note.specs.Kept.{Kept, empty, waiting}
 use Rattle.note.proofs.Keeping.{Sound, fits_in, sums-few, fills-all, rows-many}
 use Rattle.queue.specs.declared.Marks.{Marks}
-use Rattle.page.specs.Page.{Paged, shows, Pages, row_as, shown_of, page_of}
+use Rattle.page.specs.Page.{Paged, shows as shows-page, Pages, row_as, shown_of, page_of}
 use Rattle.page.specs.declared.OrderRow.{OrderRow}
-use Rattle.page.proofs.Shown.{told-few, told-all, due-few, due_all, page-rows, none_written}
+use Rattle.page.proofs.Showing.{told-few, told-all, due-few, due_all, page-rows, none_written}
 use Rattle.page.specs.contracts.page as page
 use Rattle.octet.proofs.Once.{by}
 use Rattle.receiver.specs.State.{State, seen}
@@ -162,7 +162,7 @@ shows q h m book x rows rows' r p =
         p.1 ∙ ap (λ (n : ℕ). page_of m book n ++ drop n rows) (due-few m lent l) ∙ none_written m book rows,
       );
       shown = λ l. (
-        p.0 ∙ told-all m lent l ∙ ap₂ shows all (x.day ∙ h.day-all),
+        p.0 ∙ told-all m lent l ∙ ap₂ shows-page all (x.day ∙ h.day-all),
         p.1
             ∙ ap (λ (n : ℕ). page_of m book n ++ drop n rows) (due_all m lent l)
             ∙ ap (λ (n : ℕ). page_of m book n ++ drop n rows) (all ∙ sym orders)
