@@ -1,29 +1,22 @@
 -- Searches over the slots of a region, and what they hand back.
 --     find-inside, last-inside     past the end of the region there is nothing to find
---     search-found, search-on, search-none     a search from the first slot to the last
---     last_found, last_on, last_done     a search from the last slot to the first
---     exec-by, order-by     the two predicates, test by test
---     exec-glance, order-glance     a slot that differs in one word is another
+--     order-by     a fill of an order, test by test
 --     known-none, known_some     what a search hands back
 use mathlib.Core.Path.{◌≡◌, refl, sym, ap, ◌∙◌}
 use mathlib.Core.List.{List, [], ◌∷◌}
 use mathlib.Core.Option.{Option, none, some}
-use mathlib.Core.Bool.{Bool, true, false, cond, ◌&&◌}
+use mathlib.Core.Bool.{Bool, false, cond, ◌&&◌}
 use mathlib.Core.Logic.{⊎_elim}
-use Prim.Native.Nat.{ℕ, zero, suc, ◌+◌, ◌-◌, ◌*◌, ◌≤◌, ◌<◌, min}
+use Prim.Native.Nat.{ℕ, zero, suc, ◌*◌, ◌≤◌, min}
 use native.Mathlib.Omega.{arith}
 use lib.ListN.{length, take, drop, length-drop}
-use Rattle.octet.specs.Bytes.{same, part}
+use Rattle.octet.specs.Bytes.{same}
 use Rattle.octet.specs.Maybe.{find, find_last, or_else}
-use Rattle.octet.specs.Places.{word_at}
-use Rattle.octet.proofs.Cases.{contrary, le-or-lt, and-no-right, find-here, find-later, last-other, last-only, last-drop}
-use Rattle.octet.proofs.Lists.{part-past}
-use Rattle.octet.proofs.Places.{word-differs}
-use Rattle.fill.specs.Slot.{Slot, slot_width, is_fill, exec_of, order_of}
+use Rattle.octet.proofs.Cases.{le-or-lt, find-later, last-other}
+use Rattle.fill.specs.Slot.{Slot, slot_width, is_fill, order_of}
 use Rattle.book.specs.Memory.{most_slots, slots_here, cells}
 use Rattle.book.specs.Place.{same_exec, same_order}
 use Rattle.book.specs.Seeing.{some_slot}
-use Rattle.book.proofs.Cells.{cells-first, cells-next, cells-last, cells-drop}
 
 -- no predicate accepts an empty slot
 pub exec-empty : (a : Slot) → same_exec a [] ≡ false
@@ -81,72 +74,8 @@ module _ (p : Slot → Bool) (passed : p [] ≡ false) where
   last-inside =
       only-inside (find_last p) (λ ss. last-other p [] ss passed) (λ s xs ys e. ap (λ (o : Option Slot). or_else o (cond (p s) (some s) none)) e)
 
-  found_some : (s : Slot) → p s ≡ true → some_slot s ≡ some s
-  found_some [] h = contrary h passed
-  found_some (b ∷ s) h = refl
-
-  -- a search from the first slot to the last, at slot i: it is found, it is not this one, and there is none
-  module _ (m : List ℕ) (n i : ℕ) (so_far : find p (cells slot_width (n - i) (drop (i * slot_width) m)) ≡ find p (cells slot_width n m)) where
-    pub search-found : (s : Slot) → i < n → s ≡ part (i * slot_width) slot_width m → p s ≡ true → some_slot (part (i * slot_width) slot_width m) ≡ find p (cells slot_width n m)
-    search-found s l es h =
-        let t = part (i * slot_width) slot_width m in
-        let g : p t ≡ true = ap p (sym es) ∙ h in
-        found_some t g ∙ sym (ap (find p) (cells-next slot_width n i m l) ∙ find-here p t (cells slot_width (n - (i + 1)) (drop ((i + 1) * slot_width) m)) g) ∙ so_far
-
-    pub search-on : (s : Slot) → i < n → s ≡ part (i * slot_width) slot_width m → p s ≡ false
-        → find p (cells slot_width (n - (i + 1)) (drop ((i + 1) * slot_width) m)) ≡ find p (cells slot_width n m)
-    search-on s l es h =
-        let t = part (i * slot_width) slot_width m in
-        sym (ap (find p) (cells-next slot_width n i m l) ∙ find-later p t (cells slot_width (n - (i + 1)) (drop ((i + 1) * slot_width) m)) (ap p (sym es) ∙ h)) ∙ so_far
-
-    pub search-none : length m ≡ slots_here.wide → n ≤ i → some_slot (part (most_slots * slot_width) slot_width m) ≡ find p (cells slot_width n m)
-    search-none l h =
-        ap some_slot (part-past (most_slots * slot_width) slot_width m (omega arith))
-        ∙ sym (ap (find p) (cells-last slot_width n i (drop (i * slot_width) m) h))
-        ∙ so_far
-
-  -- a search from the last slot to the first, at slot i: none stands behind it
-  module _ (m : List ℕ) (n : ℕ) where
-    pub last_found : (s : Slot) (i : ℕ) → i < n → s ≡ part (i * slot_width) slot_width m → p s ≡ true
-        → find_last p (cells slot_width (n - (i + 1)) (drop ((i + 1) * slot_width) m)) ≡ none
-        → some_slot (part (i * slot_width) slot_width m) ≡ find_last p (cells slot_width n m)
-    last_found s i l es h z =
-        let t = part (i * slot_width) slot_width m in
-        let g : p t ≡ true = ap p (sym es) ∙ h in
-        let rest = cells slot_width (n - (i + 1)) (drop ((i + 1) * slot_width) m) in
-        found_some t g ∙ sym (last-drop p i (cells slot_width n m) t (ap (find_last p) (cells-drop slot_width n i m ∙ cells-next slot_width n i m l) ∙ last-only p t rest g z))
-
-    pub last_on : (s : Slot) (i : ℕ) → i < n → s ≡ part (i * slot_width) slot_width m → p s ≡ false
-        → find_last p (cells slot_width (n - (i + 1)) (drop ((i + 1) * slot_width) m)) ≡ none → find_last p (cells slot_width (n - i) (drop (i * slot_width) m)) ≡ none
-    last_on s i l es h z =
-        let t = part (i * slot_width) slot_width m in
-        ap (find_last p) (cells-next slot_width n i m l) ∙ last-other p t (cells slot_width (n - (i + 1)) (drop ((i + 1) * slot_width) m)) (ap p (sym es) ∙ h) ∙ z
-
-    pub last_done : length m ≡ slots_here.wide → (i : ℕ) → i ≤ 0 → find_last p (cells slot_width (n - i) (drop (i * slot_width) m)) ≡ none
-        → some_slot (part (most_slots * slot_width) slot_width m) ≡ find_last p (cells slot_width n m)
-    last_done l i h z =
-        let e : i ≡ 0 = omega arith in
-        ap some_slot (part-past (most_slots * slot_width) slot_width m (omega arith))
-        ∙ sym z
-        ∙ ap (λ (k : ℕ). find_last p (cells slot_width (n - k) (drop (k * slot_width) m))) e
-        ∙ ap (find_last p) (sym (cells-first slot_width n m))
-
--- ---- the two predicates
+-- ---- of an order
 module _ (f s : Slot) where
-  pub exec-by : {a b : Bool} → is_fill s ≡ a → same (exec_of f) (exec_of s) ≡ b → a && b ≡ same_exec f s
-  unfolding same_exec
-  exec-by ea eb = cc
-
   pub order-by : {a b : Bool} → is_fill s ≡ a → same (order_of f) (order_of s) ≡ b → a && b ≡ same_order f s
   unfolding same_order
   order-by ea eb = cc
-
-  pub exec-glance : (at : ℕ) (word : ℕ) → word ≡ word_at at (exec_of f) → (word_at at (exec_of s) ≡ word → ⊥) → same_exec f s ≡ false
-  unfolding same_exec
-  exec-glance at word e d =
-      and-no-right (is_fill s) (same (exec_of f) (exec_of s)) (word-differs at (exec_of f) (exec_of s) (λ x. d (sym x ∙ sym e)))
-
-  pub order-glance : (at : ℕ) (word : ℕ) → word ≡ word_at at (order_of f) → (word_at at (order_of s) ≡ word → ⊥) → same_order f s ≡ false
-  unfolding same_order
-  order-glance at word e d =
-      and-no-right (is_fill s) (same (order_of f) (order_of s)) (word-differs at (order_of f) (order_of s) (λ x. d (sym x ∙ sym e)))

@@ -1,23 +1,20 @@
 -- What the definitions come to for an entry, test by test: its key, its place, room and the counts. twin is what a search found for the key.
 --     key-empty, keyed     the same key
 --     entry-new, entry-already, entry-clash     placement
---     entry-room-last, entry-room-by, entry-room     room
---     entry-counted, entry-booking     the counts, and what a booking changes and answers
+--     entry-room, entry-booking     room, and what a booking changes and answers
 use mathlib.Core.Path.{◌≡◌, refl, sym, ap, ◌∙◌}
 use mathlib.Core.List.{List, []}
 use mathlib.Core.Bool.{Bool, true, false, cond, not, ◌&&◌}
 use mathlib.Core.Option.{Option, none, some}
-use Prim.Native.Nat.{ℕ, ◌+◌, ◌≤◌, ◌<◌, min}
-use native.Mathlib.Omega.{arith}
+use Prim.Native.Nat.{ℕ}
 use lib.Dec.{ltb}
-use borrow.Author.Tests.{lt-ltb, le-ltb}
 use Rattle.octet.specs.Bytes.{same}
 use Rattle.octet.specs.Maybe.{find}
-use Rattle.answer.specs.Numbers.{fault, largest}
+use Rattle.answer.specs.Numbers.{fault}
 use Rattle.fill.specs.Slot.{Slot, is_entry}
 use Rattle.fill.specs.Entry.{key_of}
 use Rattle.book.specs.Rows.{Row, row_place}
-use Rattle.book.specs.Entries.{same_key, by_key, place_entry, entry_room, most_entries}
+use Rattle.book.specs.Entries.{same_key, by_key, place_entry, entry_room}
 use Rattle.book.specs.Memory.{most_slots, slots_in}
 use Rattle.book.specs.Admitting.{place, has_room, in_step, with_entry, stopped, booking_of}
 use Rattle.book.specs.Seeing.{is_keyed}
@@ -35,22 +32,6 @@ key-empty a = refl
 pub keyed : (e : Slot) (ss : List Slot) → find (is_keyed (key_of e)) ss ≡ find (same_key e) ss
 unfolding same_key
 keyed e ss = refl
-
--- ---- room
-pub entry-room-last : (last entries : ℕ) → most_slots ≤ last → false ≡ ltb last most_slots && entry_room entries
-entry-room-last last entries h = sym (rw (le-ltb last most_slots h))
-
-pub entry-room-by : (last entries : ℕ) → last < most_slots → ltb entries most_entries ≡ ltb last most_slots && entry_room entries
-entry-room-by last entries h = sym (rw (lt-ltb last most_slots h))
-
--- ---- the counts: each fits as it is
-pub entry-counted : (load : Load) → load.fills ≤ largest → load.orders ≤ largest → load.entries + 1 ≤ largest
-    → ◌≡◌ {A = Load} (record { fills = load.fills; orders = load.orders; entries = load.entries + 1 }) (stopped (with_entry load))
-entry-counted load lf lo le =
-    let ef : load.fills ≡ min load.fills largest = omega arith in
-    let eo : load.orders ≡ min load.orders largest = omega arith in
-    let ee : load.entries + 1 ≡ min (load.entries + 1) largest = omega arith in
-    cc
 
 -- ---- what becomes of it
 module _ (e : Slot) (h : is_entry e ≡ true) where

@@ -1,32 +1,29 @@
 -- What the definitions of placement, room and step come to for a fill, test by test; twin and known are what a walk found for the ExecID and the order.
 -- Keyed has the same of an entry, and what becomes of any slot stands at the end.
---     contents-by     same contents, from what each comparison said
 --     order-new, order-symbol, order-side, order_same     placement by the order
 --     exec-new, exec-already, exec-clash, placed-by, alone     placement
---     room-last, room-full, room-few, room-known, room_by     room; has_room_lem: what it says, of any slot
---     fills-more, fills_same, orders-same, orders-one, orders-by     the counts
+--     room_by     room; has_room_lem: what it says, of any slot
 --     step_by, booking-by     in step, and what a booking changes and answers
 --     booking-load     with room the counts are as they stand, of any slot
 --     admit-is     what becomes of a slot is decided by its placement
 --     admit-clash, admit-already, admit-full, admit-new     and what it is in each case
 --     admitted-clash, admitted-already, admitted-full, admitted-new     what an answer says of placement and room
 use mathlib.Core.Path.{◌≡◌, refl, sym, ap, ap₂, ◌∙◌, subst}
-use mathlib.Core.List.{List, [], ◌∷◌}
+use mathlib.Core.List.{List}
 use mathlib.Core.Option.{Option, none, some}
 use mathlib.Core.Bool.{Bool, true, false, cond, not, ◌&&◌, ◌||◌}
-use Prim.Native.Nat.{ℕ, suc, ◌+◌, ◌≤◌, ◌<◌, min}
+use Prim.Native.Nat.{ℕ, ◌+◌, ◌≤◌, ◌<◌, min}
 use mathlib.Core.Logic.{⊎_elim}
 use native.Mathlib.Nat.{min-eq_left}
 use native.Mathlib.Omega.{arith}
 use lib.ListN.{length}
-use lib.Dec.{ltb, eqb}
-use borrow.Author.Tests.{lt-ltb, le-ltb, ltb-true, ne_eqb}
-use Rattle.octet.specs.Bytes.{same}
+use lib.Dec.{ltb}
+use borrow.Author.Tests.{ltb-true}
 use Rattle.octet.specs.Maybe.{find_last, is_none}
 use Rattle.octet.proofs.Cases.{bool_case, cond-true, cond-false, of-cond, or_cases, and_both}
-use Rattle.answer.specs.Numbers.{fault, wrong_value, largest, counted}
+use Rattle.answer.specs.Numbers.{fault, wrong_value, largest}
 use Rattle.answer.specs.declared.Fault.{Fault}
-use Rattle.fill.specs.Slot.{Slot, is_fill, is_entry, order_of, shares_of, price_of}
+use Rattle.fill.specs.Slot.{Slot, is_fill, is_entry}
 use Rattle.book.specs.Place.{same_exec, same_symbol, same_side, same_contents, by_order, by_exec, place_fill}
 use Rattle.book.specs.Place.{fills_with, orders_with, fill_room, steps, most_fills, most_orders}
 use Rattle.book.specs.Rows.{Row, row_place, first_for, booked_for, is_known}
@@ -44,11 +41,6 @@ use Rattle.book.proofs.Regions.{slots_length}
 use Rattle.book.proofs.Rowing.{known_is}
 use Rattle.book.proofs.Finds.{known-none, known_some}
 use Rattle.book.proofs.ByKind.{loads, place-as, room_as, load-as}
-
-pub contents-by : (f k : Slot) {a b d e g : Bool} → same (order_of f) (order_of k) ≡ a → same_symbol f k ≡ b → same_side f k ≡ d → eqb (shares_of f) (shares_of k) ≡ e → eqb (price_of f) (price_of k) ≡ g
-    → a && b && d && e && g ≡ same_contents f k
-unfolding same_contents
-contents-by f k ea eb ed ee eg = cc
 
 -- ---- by the order
 module _ (f k : Slot) where
@@ -73,32 +65,7 @@ module _ (f k : Slot) where
     order_same e g = sym (known ∙ rw (e, g))
 
 -- ---- room
-is_known_lem : (k : Slot) → not (eqb (length k) 0) ≡ not (is_none (some_slot k))
-is_known_lem [] = refl
-is_known_lem (b ∷ k) = rw (ne_eqb (suc (length k)) 0 (λ e. omega arith))
-
 module _ (last : ℕ) (load : Load) (k : Slot) where
-  pub room-last : most_slots ≤ last → false ≡ room_for last load k
-  room-last h = sym (rw (le-ltb last most_slots h))
-
-  pub room-full : last < most_slots → most_fills ≤ load.fills → false ≡ room_for last load k
-  room-full l h = sym (rw (lt-ltb last most_slots l, le-ltb load.fills most_fills h))
-
-  pub room-few : last < most_slots → load.fills < most_fills → load.orders < most_orders → true ≡ room_for last load k
-  room-few l h g = sym (rw (lt-ltb last most_slots l, lt-ltb load.fills most_fills h, lt-ltb load.orders most_orders g) (or-true (not (is_none (some_slot k)))))
-    where
-      or-true : (b : Bool) → b || true ≡ true
-      or-true true = refl
-      or-true false = refl
-
-  pub room-known : last < most_slots → load.fills < most_fills → most_orders ≤ load.orders → not (eqb (length k) 0) ≡ room_for last load k
-  room-known l h g =
-      is_known_lem k ∙ sym (rw (lt-ltb last most_slots l, lt-ltb load.fills most_fills h, le-ltb load.orders most_orders g) (or-false (not (is_none (some_slot k)))))
-    where
-      or-false : (b : Bool) → b || false ≡ b
-      or-false true = refl
-      or-false false = refl
-
   pub room_by : (m : List ℕ) (rows : List Row) (f : Slot) → is_entry f ≡ false → there k ≡ is_known (slots_in last m) rows f → room_for last load k ≡ has_room (slots_in last m) rows load f
   room_by m rows f h e =
       ap₂ (λ (n : ℕ) (b : Bool). ltb n most_slots && fill_room b load.fills load.orders) (sym (slots_length last m)) e
@@ -125,21 +92,6 @@ has_room_lem ss rows load s e =
       few-entries = λ h. ltb-true load.entries most_entries
           (and_both (ltb (length ss) most_slots) (entry_room load.entries) (sym (room_as s h ss rows load) ∙ e)).1;
     }
-
--- ---- the counts
-pub fills-more : (fills n : ℕ) (f : Slot) → is_fill f ≡ true → n ≡ counted fills 1 → n ≡ min (fills_with fills f) largest
-fills-more fills n f h e = e ∙ sym (rw h)
-
-pub fills_same : (fills : ℕ) (f : Slot) → is_fill f ≡ false → fills ≤ largest → fills ≡ min (fills_with fills f) largest
-fills_same fills f h l = let e : fills ≡ min fills largest = omega arith in e ∙ sym (rw h)
-
-pub orders-same : (orders : ℕ) (k : Slot) → (length k ≡ 0 → ⊥) → orders ≤ largest → orders ≡ orders_for orders k
-orders-same orders k h l =
-    let e : orders ≡ min orders largest = omega arith in
-    e ∙ ap (λ (o : Option Slot). min (orders_with (not (is_none o)) orders) largest) (sym (known_some k h))
-
-pub orders-one : (orders n : ℕ) (k : Slot) → length k ≡ 0 → n ≡ counted orders 1 → n ≡ orders_for orders k
-orders-one orders n k h e = e ∙ ap (λ (o : Option Slot). min (orders_with (not (is_none o)) orders) largest) (sym (known-none k h))
 
 -- k is what stands for the first fill of its order, and row the row's place
 module _ (ss : List Slot) (rows : List Row) (load : Load) (f k : Slot) (found : some_slot k ≡ first_for ss rows f) where

@@ -101,7 +101,7 @@ fn time_of(s: &[u8]) -> &[u8]
     part(s, TIME_AT, TIME)
 }
 
-// The slot of an entry.
+// The slot of an entry, of nine parameters as a fill's is.
 pub fn entry_with(
     trade: &[u8],
     number: u32,

@@ -156,7 +156,7 @@ fn put_time(dst: &mut [u8], at: usize, t: &[u8])
     octet::copy_into(dst, at, &time_field(t));
 }
 
-// The slot of a fill.
+// The slot of a fill. What a report says of it stays nine parameters: its caller has them as pieces of a message, and would fill a struct only to hand it on.
 pub fn slot_with(
     exec: &[u8],
     order: &[u8],
