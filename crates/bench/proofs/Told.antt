@@ -1,14 +1,14 @@
 -- From the promises of the calls to what is told in numbers.
 use Prim.Native.Nat.{ℕ}
-use mathlib.Core.Path.{◌≡◌, sym, ap, ◌∙◌}
+use mathlib.Core.Path.{◌≡◌, refl, sym, ap, ◌∙◌}
 use mathlib.Core.List.{List}
 use Rattle.answer.specs.declared.Setup.{Setup}
-use Rattle.field.specs.Pieces.{pieces_of, scan_of}
+use Rattle.field.specs.Pieces.{Scan, pieces_of, scan_of}
 use Rattle.field.specs.Index.{index_of}
 use Rattle.field.specs.Look.{look_of, look_in}
 use Rattle.field.proofs.Looks.{look-by}
 use Rattle.session.proofs.Listed.{facts-listed}
-use Rattle.field.specs.declared.Scan.{Scan}
+use Rattle.field.specs.declared.Column.{Column}
 use Rattle.session.specs.Reading.{Facts, facts_of, facts_in}
 use Rattle.session.specs.Judging.{judged_by, judge}
 use Rattle.session.specs.declared.Session.{Session}
@@ -18,7 +18,10 @@ use Rattle.receiver.specs.State.{State, Did}
 use Rattle.receiver.specs.Receiver.{What, Lent, does, call}
 use Rattle.receiver.specs.Steps.{Entered, Filed, Taken}
 use Rattle.receiver.specs.declared.Told.{Told}
-use Rattle.bench.specs.Timed.{word_of, Timed, TimedFiled, scan_number, Indexed}
+use Rattle.answer.specs.declared.Outcome.{Outcome}
+use Rattle.receiver.specs.declared.Answer.{Answer}
+use Rattle.receiver.specs.declared.Answer.TheVariants.{Done, Refused, More, Garbled, Framed, Offered, None, Acked, Already, Restarted}
+use Rattle.bench.specs.Timed.{became_number, word_of, Timed, TimedFiled, scan_number, Indexed}
 
 -- what a call does is the same whatever the tally was
 pub heard-of : (setup : Setup) (st : State) (b : Lent) (t : Tally) (w : What) {x : Told} {t' : Tally} {book book' reply reply' note note' : List ℕ}
@@ -34,7 +37,7 @@ pub timed-filed : {d : Did} {t : Told} {r : ℕ} {book book' note note' : List �
 timed-filed k e = record { told = e ∙ ap word_of k.told; booked = k.booked; noted = k.noted }
 
 -- a session judges a body by its index as it judges the pieces
-pub judged-body : {setup setup' : Setup} {s s' : Session} (body : List ℕ) {scan : Scan} {index : List ℕ} {fs : Facts} {v : Verdict} → setup ≡ setup' → s ≡ s'
+pub judged-body : {setup setup' : Setup} {s s' : Session} (body : List ℕ) {scan : Scan} {index : List Column} {fs : Facts} {v : Verdict} → setup ≡ setup' → s ≡ s'
     → (scan ≡ scan_of (pieces_of body)) × (index ≡ index_of body) → fs ≡ facts_of setup s scan (look_in body index) → v ≡ judged_by s fs → v ≡ judge setup' s' (pieces_of body)
 unfolding judge facts_in
 judged-body {setup} {setup'} {s} {s'} body {index = index} p q own read e =
@@ -46,6 +49,19 @@ judged-body {setup} {setup'} {s} {s'} body {index = index} p q own read e =
     ∙ ap (λ (x : Session). judge setup' x (pieces_of body)) q
 
 -- what was indexed, by its fault
-pub indexed-body : (body : List ℕ) (scan : Scan) {q : Scan} {index : List ℕ} → q ≡ scan → (q ≡ scan_of (pieces_of body)) × (index ≡ index_of body)
+pub indexed-body : (body : List ℕ) (scan : Scan) {q : Scan} {index : List Column} → q ≡ scan → (q ≡ scan_of (pieces_of body)) × (index ≡ index_of body)
     → Indexed body (scan_number scan) index
 indexed-body body scan e f = record { fault = ap scan_number (sym e ∙ f.0); listed = f.1 }
+
+-- what is no framed message has no number
+pub unframed : (a : Answer) → ((len : ℕ) (o : Outcome) → a ≡ Framed len o → ⊥) → 0 ≡ became_number a
+unframed Done h = refl
+unframed (Refused why) h = refl
+unframed More h = refl
+unframed (Garbled skip) h = refl
+unframed (Framed len o) h = absurd (h len o refl)
+unframed Offered h = refl
+unframed None h = refl
+unframed Acked h = refl
+unframed Already h = refl
+unframed (Restarted whole) h = refl

@@ -1,14 +1,14 @@
 -- What is timed: a receiver that is on, given by its numbers, and what a caller in C is told of a call, as numbers.
-use Rattle.std.specs.Prelude.{ℕ, ◌+◌, ◌*◌, ◌%◌, ◌≡◌, List, ◌++◌, length, drop, None}
+use Rattle.std.specs.Prelude.{ℕ, ◌+◌, ◌*◌, ◌%◌, ◌≡◌, List, ◌++◌, length, drop, Ok, Err, None}
 use Rattle.std.proofs.Math.Option.{Option, none, some}
 use Rattle.answer.specs.declared.Setup.{Setup}
 use Rattle.answer.specs.declared.Phase.TheVariants.{In}
 use Rattle.answer.specs.Numbers.{outcome_number, counted}
 use Rattle.answer.specs.declared.Outcome.{Outcome}
-use Rattle.field.specs.Pieces.{pieces_of, scan_of}
+use Rattle.field.specs.Pieces.{Scan, pieces_of, scan_of}
 use Rattle.field.specs.Index.{index_of}
-use Rattle.field.specs.declared.Scan.{Scan}
-use Rattle.field.specs.declared.Scan.TheVariants.{Sound, Malformed, Empty}
+use Rattle.field.specs.declared.Column.{Column}
+use Rattle.field.specs.declared.Unsound.TheVariants.{Malformed, Empty}
 use Rattle.frame.specs.declared.Found.{Found}
 use Rattle.frame.specs.declared.Found.TheVariants.{More, Garbled, Framed}
 use Rattle.session.specs.declared.Verdict.{Verdict}
@@ -17,10 +17,8 @@ use Rattle.book.specs.declared.Load.{Load}
 use Rattle.book.specs.declared.Admitted.{Admitted}
 use Rattle.book.specs.declared.Admitted.TheVariants as admitted
 use Rattle.queue.specs.declared.Marks.{Marks}
-use Rattle.page.specs.Page.{due_of, page_of, told_of as page_told_of}
+use Rattle.page.specs.Page.{Paged, due_of, page_of, told_of as page_told_of}
 use Rattle.page.specs.declared.OrderRow.{OrderRow}
-use Rattle.page.specs.declared.Paged.{Paged}
-use Rattle.page.specs.declared.Paged.TheVariants as paged
 use Rattle.receiver.specs.Receiver.{does, Message, Acknowledge}
 use Rattle.receiver.specs.Steps.{lent_to, lent_line}
 use Rattle.receiver.specs.State.{Did, seen, told_of, book_after, reply_after, note_after}
@@ -78,8 +76,8 @@ TimedAcknowledge setup st n r book book' note note' = TimedFiled (does setup (se
 
 -- what a page answers: the orders above the low 32 bits, and the day's sum in these; 0 where it is refused
 abbrev pub page_word : Paged → ℕ
-page_word (paged.Refused why) = 0
-page_word (paged.Shown n day) = n * 4294967296 + day
+page_word (Ok shown) = shown.orders * 4294967296 + shown.day
+page_word (Err why) = 0
 
 -- the totals page: its word, and the rows after it
 abbrev pub TimedPage : Marks → List ℕ → List OrderRow → ℕ → List OrderRow → Type 0
@@ -94,12 +92,12 @@ length_of (Framed len) = len
 
 -- the first fault of the pieces of a body: none, a piece that is no field, or a field without a value
 abbrev pub scan_number : Scan → ℕ
-scan_number Sound = 0
-scan_number Malformed = 1
-scan_number (Empty tag) = 2
+scan_number (Ok sound) = 0
+scan_number (Err Malformed) = 1
+scan_number (Err (Empty tag)) = 2
 
 -- the index of a body: its fault as a number, and the list as it is lent
-pub record Indexed (body : List ℕ) (r : ℕ) (index : List ℕ) : Type 0 where
+pub record Indexed (body : List ℕ) (r : ℕ) (index : List Column) : Type 0 where
   pub fault : r ≡ scan_number (scan_of (pieces_of body))
   pub listed : index ≡ index_of body
 

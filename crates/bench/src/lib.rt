@@ -14,14 +14,13 @@ ghost use Rattle.receiver.specs.Steps.{Heard};
 ghost use Rattle.bench.specs.Timed.{agreed, load_of, online, became_number, word_of, TimedMessage, TimedAcknowledge, page_word, TimedPage};
 ghost use Rattle.bench.specs.Timed.{length_of, Indexed, verdict_number, admitted_number};
 
-use answer::{Id, Phase, Setup};
+use answer::{Id, Phase, Refusal, Setup};
 use book::{Admitted, BOOK, Load, NO_LOAD};
-use field::{Index, NO_INDEX, Scan};
+use field::{Index, Look, NO_INDEX, Unsound};
 use frame::Found;
-use page::{OrderRow, Paged};
+use page::{OrderRow, Shown};
 use queue::Marks;
 use receiver::{Answer, State, Told};
-use restart::Restarted;
 use session::{Session, Verdict};
 use tally::Tally;
 
@@ -31,15 +30,7 @@ fn became_number(answer: Answer) -> u32
 {
     match answer {
         Answer::Framed(_, outcome) => outcome.number(),
-        Answer::Done => 0,
-        Answer::Refused(_) => 0,
-        Answer::More => 0,
-        Answer::Garbled(_) => 0,
-        Answer::Offered => 0,
-        Answer::None => 0,
-        Answer::Acked => 0,
-        Answer::Already => 0,
-        Answer::Restarted(_) => 0,
+        _ => 0,
     }
 }
 
@@ -50,10 +41,9 @@ const LENGTHS: usize = 4096;
 fn word_of(told: Told) -> u64
     ensures { result ≡ word_of told }
 {
-    let answer = told.answer;
     let reply = (told.reply % LENGTHS) as u64;
     let note = (told.note % LENGTHS) as u64;
-    (became_number(answer) as u64 * 4096 + reply) * 4096 + note
+    (u64::from(became_number(told.answer)) * 4096 + reply) * 4096 + note
 }
 
 fn agreed(ours: [u8; 16], n: usize, theirs: [u8; 16], k: usize) -> Setup
@@ -68,6 +58,16 @@ fn agreed(ours: [u8; 16], n: usize, theirs: [u8; 16], k: usize) -> Setup
             bytes: theirs,
             len: k,
         },
+    }
+}
+
+fn load_of(fills: u32, orders: u32, entries: u32) -> Load
+    ensures { result ≡ load_of fills orders entries }
+{
+    Load {
+        fills,
+        orders,
+        entries,
     }
 }
 
@@ -95,13 +95,7 @@ fn online(e: u32, load: Load, offered: u32) -> State
 fn marks_of(fills: u32, orders: u32, entries: u32) -> Marks
     ensures { result ≡ (online 1 (load_of fills orders entries) 0).marks }
 {
-    let load = Load {
-        fills,
-        orders,
-        entries,
-    };
-    let st = online(1, load, 0);
-    st.marks
+    online(1, load_of(fills, orders, entries), 0).marks
 }
 
 // The message call, lent a tally of our own.
@@ -144,15 +138,7 @@ pub extern "C" fn bench_message(
 {
     let told = lend(
         agreed(*ours, n, *theirs, k),
-        online(
-            e,
-            Load {
-                fills,
-                orders,
-                entries,
-            },
-            0,
-        ),
+        online(e, load_of(fills, orders, entries), 0),
         Tally::new(),
         time,
         bytes,
@@ -180,22 +166,17 @@ pub extern "C" fn bench_acknowledge(
     ensures { TimedAcknowledge (agreed ours.now n theirs.now k) (online 1 (load_of fills orders entries) upto) upto result
         book.old book.new note.old note.new }
 {
-    let load = Load {
-        fills,
-        orders,
-        entries,
-    };
-    let st = online(1, load, upto);
+    let st = online(1, load_of(fills, orders, entries), upto);
     word_of(receiver::acknowledge(agreed(*ours, n, *theirs, k), st, book, upto, note))
 }
 
 // What a page answers, in one word: the orders above the low 32 bits, and the day's sum in these; 0 where it is refused.
-fn page_word(answer: Paged) -> u64
+fn page_word(answer: Result<Shown, Refusal>) -> u64
     ensures { result ≡ page_word answer }
 {
     match answer {
-        Paged::Refused(_) => 0,
-        Paged::Shown(n, day) => n as u64 * 4294967296 + day as u64,
+        Ok(shown) => u64::from(shown.orders) * 4294967296 + u64::from(shown.day),
+        Err(_) => 0,
     }
 }
 
@@ -210,9 +191,7 @@ pub extern "C" fn bench_page(
 ) -> u64
     ensures { TimedPage (online 1 (load_of fills orders entries) 0).marks book.now rows.old result rows.new }
 {
-    let marks = marks_of(fills, orders, entries);
-    let answer = page::page(marks, book, rows);
-    page_word(answer)
+    page_word(page::page(marks_of(fills, orders, entries), book, rows))
 }
 
 // A restart into the lent book.
@@ -221,8 +200,8 @@ pub extern "C" fn bench_restart(book: &mut [u8; BOOK], notes: &[u8]) -> usize
     ensures { (result ≡ whole_in (told (restart notes.now))) × (book.new ≡ book_after book.old (restart notes.now)) }
 {
     match restart::restart(book, notes) {
-        Restarted::Again(_, whole) => whole,
-        Restarted::Unlawful(_) => 0,
+        Ok(again) => again.whole,
+        Err(_) => 0,
     }
 }
 
@@ -252,9 +231,9 @@ pub extern "C" fn bench_index(body: &[u8], index: &mut Index) -> u8
     ensures { Indexed body.now result index.new }
 {
     match field::index_into(body, index) {
-        Scan::Sound => 0,
-        Scan::Malformed => 1,
-        Scan::Empty(_) => 2,
+        Ok(()) => 0,
+        Err(Unsound::Malformed) => 1,
+        Err(Unsound::Empty(_)) => 2,
     }
 }
 
@@ -271,16 +250,16 @@ pub extern "C" fn bench_judge(
     ensures { result ≡ verdict_number (judge (agreed ours.now n theirs.now k) (online e no_load 0).session (pieces_of body.now)) }
 {
     let setup = agreed(*ours, n, *theirs, k);
-    let st = online(e, NO_LOAD, 0);
-    let session = st.session;
+    let session = online(e, NO_LOAD, 0).session;
     let mut index = NO_INDEX;
     let scan = field::index_into(body, &mut index);
-    let found = session::findings_of(setup, session, body, scan, &index);
+    let look = Look {
+        body,
+        index: &index,
+    };
+    let found = session::findings_of(setup, session, look, scan);
     match session.judge(found) {
-        Verdict::Settled(j) => {
-            let outcome = j.outcome;
-            outcome.number()
-        }
+        Verdict::Settled(j) => j.outcome.number(),
         Verdict::Report(_) => 14,
         Verdict::Correction(_) => 15,
     }
@@ -298,12 +277,7 @@ pub extern "C" fn bench_admit(
 ) -> u8
     ensures { result ≡ admitted_number (admit_of (slots_in last book.now) (rows_in orders book.now) (load_of fills orders entries) slot.now) }
 {
-    let load = Load {
-        fills,
-        orders,
-        entries,
-    };
-    match book::admit(book, last, load, slot) {
+    match book::admit(book, last, load_of(fills, orders, entries), slot) {
         Admitted::Clash(_) => 1,
         Admitted::Already => 2,
         Admitted::Full => 3,

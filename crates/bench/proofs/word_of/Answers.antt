@@ -4,4 +4,4 @@ use Rattle.bench.proofs.word_of.Goals as goal
 
 pub returns : goal.returns
 unfolding word_of
-returns c = rw c.became_number.ensures refl
+returns c = rw (c.from.ensures, c.became_number.ensures) refl
