@@ -193,7 +193,8 @@ fn replay(mem: &mut [u8; BOOK], notes: &[u8]) -> Result<Restarted, usize>
     })
 }
 
-// A restart into the lent book; or the place of the first byte of an unlawful note. The notes are replayed into an array of the call's own, and only the used slots and rows are copied:
+// A restart into the lent book; or the place of the first byte of an unlawful note.
+// The notes are replayed into an array of the call's own, and only the used slots and rows are copied:
 // where a note is unlawful the book stays as it was, and a slot of a day before leaves no trace.
 pub fn restart(book: &mut [u8; BOOK], notes: &[u8]) -> Result<Restarted, usize>
     ensures { Restarts book.old (restart notes.now) result book.new }

@@ -1,4 +1,4 @@
-use mathlib.Core.Path.{◌≡◌, sym, ap, ◌∙◌}
+use mathlib.Core.Path.{sym, ap, ◌∙◌}
 use Rattle.book.specs.Memory.{slots_in, rows_in}
 use Rattle.book.specs.Admitting.{admit_of}
 use Rattle.book.specs.declared.Load.{Load}
