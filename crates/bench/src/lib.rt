@@ -213,7 +213,7 @@ pub extern "C" fn bench_listing(notes: &[u8], book: &mut [u8; BOOK], out: &mut [
     listing::write_listing(notes, book, out)
 }
 
-// Finding the message at the front of bytes.
+// Finding the message at the front of bytes. The numbers that this and the next three answer are the C interface.
 #[unsafe(no_mangle)]
 pub extern "C" fn bench_find(bytes: &[u8]) -> usize
     ensures { result ≡ length_of (found_in bytes.now) }

@@ -26,7 +26,7 @@ use rows::{booked_in, find_row, more_in_row};
 pub use rows::{day_with, head_of, row_in, take_off, waits_in};
 use search::{Slots, Sought};
 
-// A slot among the day's: at odds with one of them, already booked, or new.
+// A slot among the day's: at odds with one of them, already booked, or new. Stays an enum: these are three answers, none an error of another.
 #[derive(Clone, Copy)]
 pub enum Placed {
     Clash(Fault),
@@ -58,7 +58,7 @@ pub struct Booking {
 }
 
 // What becomes of a slot among the day's: at odds with one of them, already booked, no room, or new, with what its booking
-// changes and answers.
+// changes and answers. Stays an enum: only no room is a refusal.
 #[derive(Clone, Copy)]
 pub enum Admitted {
     Clash(Fault),
@@ -311,7 +311,7 @@ fn place_of(i: usize) -> usize
     SLOTS_AT + i * SLOT
 }
 
-// The i-th slot of the memory, from 0; no bytes past its end.
+// The i-th slot of the memory, from 0; no bytes past its end. Beside the rows' row_at: one function for both would take three numbers for three lines.
 pub fn slot_at(book: &[u8; BOOK], i: usize) -> &[u8]
     ensures { result.now ≡ slot_at i book.now }
 {

@@ -62,7 +62,8 @@ pub fn row_in(book: &[u8; BOOK], orders: usize, i: usize) -> &[u8]
     row_at(book, i)
 }
 
-// The first fill of a row's order; no bytes where there is none of that number.
+// The first fill of a row's order; no bytes where there is none of that number. Inlined, so that a search knows where it has a slot of full width.
+#[inline(always)]
 pub fn head_of<'a>(book: &'a [u8; BOOK], last: usize, row: &[u8]) -> &'a [u8]
     ensures { result.now ≡ head_of (slots_in last book.now) row.now }
 {

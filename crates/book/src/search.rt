@@ -35,6 +35,7 @@ impl<'a> Sought<'a> {
     }
 
     // Whether an ID is this one.
+    #[inline(always)]
     pub(crate) fn is(&self, id: &[u8]) -> bool
         ensures { result ≡ same self.now.id.now id.now }
     {

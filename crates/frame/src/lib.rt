@@ -82,7 +82,8 @@ fn body_ok(b: &[u8]) -> bool
     octet::agree(b"35=", b) && type_ok(&b[3..]) && b[b.len() - 1] == BAR
 }
 
-// The rest when the whole message is there: a body of n bytes from `at` on, and the trailer.
+// The rest when the whole message is there: a body of n bytes from `at` on, and the trailer. That `at` lies within s is asked of this and the next two: each
+// steps on, and a struct of both would be made anew at every step.
 fn judge_whole(s: &[u8], at: usize, n: usize) -> Result<usize, Unframed>
     requires { (at ≤ length s.now) × ((5 ≤ n) × (n ≤ 4072)) }
     ensures { result ≡ judge_whole at n s.now }

@@ -57,7 +57,8 @@ fn shares_in(s: &[u8]) -> u64
     }
 }
 
-// How many of the slots from number from + 1 to the last are fills.
+// How many of the slots from number from + 1 to the last are fills. That the last is one of the memory's is asked of this and the next two: Counts, which
+// has it, is for any numbers.
 fn count_from(book: &[u8; BOOK], from: usize, last: usize) -> u64
     requires { last ≤ most_slots }
     ensures { result ≡ fills_of (drop from (slots_in last book.now)) }

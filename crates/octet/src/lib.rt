@@ -30,12 +30,18 @@ pub fn same(a: &[u8], b: &[u8]) -> bool
     a == b
 }
 
-// The n bytes from place `at` on, or as many as there are.
+// The n bytes from place `at` on, or as many as there are. Stays three ways out: where it is called with a slice of known length the compiler then drops
+// two of them. By `min` a search over the rows of 128 orders took half as many instructions again.
 pub fn part(s: &[u8], at: usize, n: usize) -> &[u8]
     ensures { result.now ≡ part at n s.now }
 {
-    let rest = &s[at.min(s.len())..];
-    &rest[..n.min(rest.len())]
+    if s.len() <= at {
+        return &s[..0];
+    }
+    if s.len() - at <= n {
+        return &s[at..];
+    }
+    &s[at..at + n]
 }
 
 // The number that the eight bytes at a place are, low byte first, and 0 where there are not eight. Texts that differ in it

@@ -31,7 +31,7 @@ fn first_byte(word: &[u8]) -> Option<(u8, &[u8])>
     }
 }
 
-// Writes the bytes that a word codes to the front of the room, and says how many they are.
+// Writes the bytes that a word codes to the front of the room, and says how many they are. Stays a `while`: a step takes one byte of the word or three.
 fn put_bytes(word: &[u8], room: &mut [u8]) -> Option<usize> {
     let mut rest = word;
     let mut n = 0;

@@ -168,7 +168,8 @@ fn take_note(mem: &mut [u8; BOOK], m: Counts, says: Read, s: &[u8]) -> Step
     }
 }
 
-// The notes one by one, their slots and rows into mem; or the place of the first byte of an unlawful note.
+// The notes one by one, their slots and rows into mem; or the place of the first byte of an unlawful note. Stays a `while`: it goes on by the length of
+// each note, and the place where it stands is the answer.
 fn replay(mem: &mut [u8; BOOK], notes: &[u8]) -> Result<Restarted, usize>
     requires { length mem.old ≡ book_width }
     ensures { Replays (restart notes.now) result mem.new }

@@ -47,7 +47,8 @@ pub fn byte_sum(s: &[u8]) -> u8
 // A text has room for so many bytes.
 pub const ROOM: usize = 512;
 
-// A text that is being written: the first len of bytes. What does not fit is left out.
+// A text that is being written: the first len of bytes. What does not fit is left out. The bytes stay an array with a length: no memory is taken from
+// the heap.
 #[derive(Clone, Copy)]
 pub struct Text {
     pub bytes: [u8; ROOM],

@@ -51,7 +51,8 @@ fn day_text(day: u32) -> Text
     t
 }
 
-// Writes the lines of the first n orders, and says where they end.
+// Writes the lines of the first n orders, and says where they end. The page is a slice of which the length is asked, here and in the next two: that of an
+// array behind a reference a proof is not told.
 fn put_rows(page: &mut [u8], marks: Marks, book: &[u8; BOOK], n: usize) -> usize
     requires { (n ≤ most_orders) × (length page.old ≡ most_totals) }
     ensures { Stands (row_lines (page_of marks book.now n)) page.old result page.new × (result ≤ most_row_line * n) }

@@ -26,7 +26,7 @@ pub enum Say {
     GapFill(u32, u32),
 }
 
-// What a call writes: at most two messages.
+// What a call writes: at most two messages. Stays an enum: none, one and two are three answers.
 #[derive(Clone, Copy)]
 pub enum Reply {
     Nothing,
