@@ -1,7 +1,7 @@
 -- Laws of agreement with an opening, and of the search for the skip.
 --     agree-append     an opening in two parts
 --     agree-longer, agree-differs     later bytes, where the opening is there, and where a byte differs
---     to_agree-here, to_agree-next, to_agree-none, differs-first     the search, at a place
+--     to_agree-here, to_agree-next     the search, at a place
 use mathlib.Core.Path.{◌≡◌, refl, sym, ap, ◌∙◌}
 use mathlib.Core.List.{List, [], ◌∷◌, ◌++◌}
 use mathlib.Core.Bool.{Bool, true, false, ◌&&◌, and_assoc, true≢false}
@@ -11,8 +11,6 @@ use native.Mathlib.Numerals.{add-one}
 use lib.ListN.{length, get_or, drop}
 use lib.Seq.{drop-cons}
 use lib.Dec.{eqb}
-use borrow.Author.Tests.{ne_eqb}
-use native.Mathlib.Omega.{arith}
 use Rattle.octet.specs.Bytes.{agree}
 use Rattle.octet.proofs.Lists.{agree-none}
 use Rattle.frame.specs.Finding.{to_agree}
@@ -47,11 +45,3 @@ to_agree-cons o s x e = rw e
 pub to_agree-next : (o s : List ℕ) (p : ℕ) → p < length s → agree o (drop p s) ≡ false → to_agree o (drop p s) ≡ suc (to_agree o (drop (p + 1) s))
 to_agree-next o s p h e =
     rw (add-one, drop-cons s p 0 h) (to_agree-cons o (drop (suc p) s) (get_or s p 0) (rw (drop-cons s p 0 h) at e))
-
-pub to_agree-none : (o s : List ℕ) → length o ≡ 0 → to_agree o s ≡ 0
-to_agree-none [] s e = to_agree-here [] s refl
-to_agree-none (x ∷ o) s e = absurd (omega arith)
-
-pub differs-first : (o s : List ℕ) (p : ℕ) → 0 < length o → p < length s → (get_or s p 0 ≡ get_or o 0 0 → ⊥) → agree o (drop p s) ≡ false
-differs-first [] s p l h d = absurd (omega arith)
-differs-first (x ∷ o) s p l h d = rw (drop-cons s p 0 h, ne_eqb x (get_or s p 0) (λ e. d (sym e)))

@@ -2,7 +2,7 @@
 #![tactic(auto)]
 
 ghost use Rattle.std.specs.Prelude.{◌≡◌};
-ghost use Rattle.tally.specs.Tally.{up, none_yet, one, count_of, tallied};
+ghost use Rattle.tally.specs.Tally.{up, none_yet, one, one_booked, one_already, one_rejected, one_garbled, count_of, tallied};
 
 use answer::{Outcome, count_on};
 
@@ -75,11 +75,40 @@ pub fn count_of(outcome: Outcome) -> Option<Which>
     }
 }
 
-// "lent by the caller and brought up to date": one more of the count that is raised.
+// "lent by the caller and brought up to date": one thin function for each count, as the paper names the form.
+pub fn count_booked(t: &mut Tally)
+    ensures { t.new ≡ one_booked t.old }
+{
+    *t = t.one(Which::Booked);
+}
+
+pub fn count_already(t: &mut Tally)
+    ensures { t.new ≡ one_already t.old }
+{
+    *t = t.one(Which::Already);
+}
+
+pub fn count_rejected(t: &mut Tally)
+    ensures { t.new ≡ one_rejected t.old }
+{
+    *t = t.one(Which::Rejected);
+}
+
+pub fn count_garbled(t: &mut Tally)
+    ensures { t.new ≡ one_garbled t.old }
+{
+    *t = t.one(Which::Garbled);
+}
+
+// The lent tally, "brought up to date": the count that is raised, by its thin function.
 pub fn count(t: &mut Tally, which: Option<Which>)
     ensures { t.new ≡ tallied which t.old }
 {
-    if let Some(which) = which {
-        *t = t.one(which);
+    match which {
+        Some(Which::Booked) => count_booked(t),
+        Some(Which::Already) => count_already(t),
+        Some(Which::Rejected) => count_rejected(t),
+        Some(Which::Garbled) => count_garbled(t),
+        None => {}
     }
 }

@@ -1,39 +1,60 @@
--- `frame::skip` meets its contract: up to p nothing agreed.
-use mathlib.Core.Path.{◌≡◌, refl, sym, ◌∙◌}
-use mathlib.Core.Bool.{false}
+-- `frame::skip` meets its contract.
+use mathlib.Core.Path.{◌≡◌, ◌∙◌, refl}
+use mathlib.Core.Bool.{true}
+use Prim.Native.Nat.{◌+◌}
+use native.Mathlib.Nat.{add-zero, add_assoc}
 use native.Mathlib.Omega.{arith}
 use lib.ListN.{drop}
-use Rattle.octet.specs.Bytes.{agree}
-use Rattle.octet.proofs.Lists.{part-rest, drop-done}
+use borrow.Author.Tests.{leb-true, leb-false}
 use Rattle.frame.specs.Finding.{skip_of}
-use Rattle.frame.proofs.Agree.{to_agree-here, to_agree-next, to_agree-none, differs-first}
+use Rattle.octet.specs.Bytes.{agree}
+use Rattle.octet.proofs.Lists.{agree-next, agree_differ, agree-out-left, agree-out-right}
+use Rattle.frame.proofs.Agree.{to_agree-here, to_agree-next}
+use borrow.Author.Rules.{rules}
 use Rattle.frame.proofs.skip.Goals as goal
-use Rattle.frame.proofs.skip.Goals.{else-s-p-via-then-s-p+else-agree, else-s-p-via-else-s-p}
+use Rattle.frame.proofs.skip.Goals.{then-o-i-via-then-o-i, then-o-i-via-else-o-i+then-s-p}
 
-pub returns-in_default : goal.returns-in_default
+pub search-init : goal.search-init
 unfolding skip_of
-returns-in_default c = omega (arith, to_agree-none c.args.o.now (drop 1 c.args.s.now) (omega arith))
+search-init c = (search rules, refl)
 
-pub loop-p-init : goal.loop-p-init
-unfolding skip_of
-loop-p-init c = (omega arith, refl)
+pub compare-init : goal.compare-init
+compare-init c = (search rules, rw add-zero)
 
-pub returns-then-agree : goal.returns-then-agree
-returns-then-agree c =
-    let told = rw (part-rest c.args.s.now c.loop-p.p) at c.agree.ensures in
-    omega (arith, c.loop-p.invariant.1, to_agree-here c.args.o.now (drop c.loop-p.p c.args.s.now) (sym told ∙ c.if-agree.true))
+pub bounds-s-p : goal.bounds-s-p
+bounds-s-p c = omega (arith, leb-false)
 
-pub loop-p-preserved : goal.loop-p-preserved
-loop-p-preserved c =
-    let o = c.args.o.now in
-    let s = c.args.s.now in
-    let p = c.loop-p.p in
-    let differs : agree o (drop p s) ≡ false =
-    elim c.else-s-p.branch [
-      | else-s-p-via-then-s-p+else-agree w ↦ sym (rw (part-rest s p) at w.agree.ensures) ∙ w.if-agree.false
-      | else-s-p-via-else-s-p w ↦ differs-first o s p (omega arith) (omega arith) w.if-s-p.false
-    ] in
-    (omega arith, omega (arith, c.loop-p.invariant.1, to_agree-next o s p (omega arith) differs))
+pub compare-preserved : goal.compare-preserved
+compare-preserved c =
+    let p = c.search.p in (
+      search rules,
+      c.compare.invariant.1
+          ∙ agree-next _ _ c.compare.i (p + c.compare.i) (omega arith) (omega (arith, leb-false)) c.if-o-i-2.false
+          ∙ rw (add_assoc p c.compare.i 1),
+    )
+
+pub overflow_add-p-in-search : goal.overflow_add-p-in-search
+overflow_add-p-in-search c = omega (arith, leb-false)
+
+pub search-smaller : goal.search-smaller
+search-smaller c = omega (arith, leb-false)
+
+pub search-preserved : goal.search-preserved
+search-preserved c =
+    let p = c.search.p in
+    let a = c.args in
+    let no = c.compare.invariant.1 ∙ agree_differ _ _ c.compare.i (p + c.compare.i) (omega arith) (omega (arith, leb-false)) c.if-o-i-2.true in
+    let next = to_agree-next a.o.now a.s.now p (omega (arith, leb-false)) no in
+    (omega (arith, leb-false), omega (arith, next))
 
 pub returns : goal.returns
-returns c = let past = rw (drop-done c.args.s.now c.loop-p.p (omega arith)) at c.loop-p.invariant.1 in omega (arith, past)
+returns c =
+    let p = c.search.p in
+    let i = c.compare.i in
+    let a = c.args in
+    let yes : agree a.o.now (drop p a.s.now) ≡ true =
+    elim c.then-o-i.branch [
+      | then-o-i-via-then-o-i w ↦ c.compare.invariant.1 ∙ agree-out-left _ _ i (p + i) (omega arith)
+      | then-o-i-via-else-o-i+then-s-p w ↦ c.compare.invariant.1 ∙ agree-out-right _ _ i (p + i) (omega (arith, leb-true))
+    ] in
+    omega (arith, to_agree-here a.o.now (drop p a.s.now) yes)
