@@ -31,7 +31,7 @@ pub fn same(a: &[u8], b: &[u8]) -> bool
 }
 
 // The n bytes from place `at` on, or as many as there are. Stays three ways out: where it is called with a slice of known length the compiler then drops
-// two of them. By `min` a search over the rows of 128 orders took half as many instructions again.
+// two of them. By `min` an acknowledgement of 512 fills took a sixth more instructions.
 pub fn part(s: &[u8], at: usize, n: usize) -> &[u8]
     ensures { result.now ≡ part at n s.now }
 {
