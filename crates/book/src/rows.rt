@@ -80,8 +80,10 @@ pub(crate) fn find_row(book: &[u8; BOOK], last: usize, orders: usize, slot: &[u8
 {
     book_len(book);
     let order = Sought::new(fill::order_of(slot));
+    // so many slots lie in the memory: of these the search knows the width
+    let most = last.min(SLOTS);
     for i in 0..orders.min(ROWS) {
-        let first = head_of(book, last, row_at(book, i));
+        let first = head_of(book, most, row_at(book, i));
         if order.is(fill::order_of(first)) && fill::is_fill(first) {
             return i;
         }

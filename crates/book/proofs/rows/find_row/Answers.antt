@@ -1,5 +1,6 @@
 use Rattle.book.proofs.Finds.{order-by}
-use Rattle.book.proofs.Written.{rows-here, rows_on, rows-past}
+use Prim.Native.Nat.{ℕ}
+use Rattle.book.proofs.Written.{head-inside, rows-here, rows_on, rows-past}
 use Rattle.book.specs.Memory.{slots_in}
 use Rattle.book.specs.Place.{same_order}
 use Rattle.book.specs.Rows.{head_of}
@@ -20,7 +21,8 @@ returns-then-is_fill c =
     let f = a.slot.now in
     let few = c.min-i-end.ensures in
     let first = c.head_of-first.result.now in
-    let head = c.head_of-first.ensures ∙ ap (head_of (slots_in a.last m)) c.row_at.ensures in
+    let row = c.row_at.result.now in
+    let head = c.head_of-first.ensures ∙ ap (λ (k : ℕ). head_of (slots_in k m) row) c.min-most.ensures ∙ head-inside a.last m row ∙ ap (head_of (slots_in a.last m)) c.row_at.ensures in
     let ids = c.is.ensures ∙ ap₂ same (c.new-order.ensures ∙ c.order_of.ensures) c.order_of-in-loop-i.ensures in
     let found = ap (same_order f) (sym head) ∙ sym (order-by f first (sym c.is_fill.ensures ∙ c.if-is_fill.true) (sym ids ∙ c.if-is.true)) in
     rows-here a.last a.orders m f h.i (omega arith) found h.invariant
@@ -33,7 +35,8 @@ loop-i-preserved c =
     let f = a.slot.now in
     let few = c.min-i-end.ensures in
     let first = c.head_of-first.result.now in
-    let head = c.head_of-first.ensures ∙ ap (head_of (slots_in a.last m)) c.row_at.ensures in
+    let row = c.row_at.result.now in
+    let head = c.head_of-first.ensures ∙ ap (λ (k : ℕ). head_of (slots_in k m) row) c.min-most.ensures ∙ head-inside a.last m row ∙ ap (head_of (slots_in a.last m)) c.row_at.ensures in
     let ids = c.is.ensures ∙ ap₂ same (c.new-order.ensures ∙ c.order_of.ensures) c.order_of-in-loop-i.ensures in
     let other : same_order f first ≡ false =
     elim c.else-is.branch [
