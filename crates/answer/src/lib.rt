@@ -126,7 +126,7 @@ pub enum Kind {
 }
 
 // A Reject's reason, the tag that it names (0: none), and, of a bad form, how much of the value was well formed.
-// Reason and tag stay numbers: a Reject is written with any of them, and in the definitions 0 names none.
+// Reason, tag and place stay numbers: a Reject is written with any of them, and in the definitions 0 names none.
 #[derive(Clone, Copy, PartialEq, Eq)]
 pub struct Fault {
     pub reason: u32,

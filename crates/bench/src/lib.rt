@@ -213,7 +213,8 @@ pub extern "C" fn bench_listing(notes: &[u8], book: &mut [u8; BOOK], out: &mut [
     listing::write_listing(notes, book, out)
 }
 
-// Finding the message at the front of bytes. The numbers that this and the next three answer are the C interface.
+// Finding the message at the front of bytes. The numbers that this and the next three answer are the C interface: an arm for each
+// case says which.
 #[unsafe(no_mangle)]
 pub extern "C" fn bench_find(bytes: &[u8]) -> usize
     ensures { result ≡ length_of (found_in bytes.now) }

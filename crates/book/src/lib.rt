@@ -26,7 +26,8 @@ use rows::{booked_in, find_row, more_in_row};
 pub use rows::{day_with, head_of, row_in, take_off, waits_in};
 use search::{Slots, Sought};
 
-// A slot among the day's: at odds with one of them, already booked, or new. Stays an enum: these are three answers, none an error of another.
+// A slot among the day's: at odds with one of them, already booked, or new. Stays an enum: it is the definitions' (`place_fill`
+// says all three), and `by_order` is stated over it.
 #[derive(Clone, Copy)]
 pub enum Placed {
     Clash(Fault),
@@ -49,7 +50,8 @@ pub const NO_LOAD: Load = Load {
     entries: 0,
 };
 
-// What a booking changes and answers: the load then, the place of the order's row, and whether a fill is in step.
+// What a booking changes and answers: the load then, the place of the order's row, and whether a fill is in step. Of an entry row and step are of no
+// account: two structs would be told apart where they are used, by what the slot's first byte says already.
 #[derive(Clone, Copy)]
 pub struct Booking {
     pub load: Load,
@@ -68,6 +70,7 @@ pub enum Admitted {
 }
 
 // What the slots say of a fill: the place of the newest with its ExecID; and, where there is none, whether its order has a fill among them.
+// Stays a place and a bool: the search behind the first fill of the order hands its answer on as the place.
 #[derive(Clone, Copy)]
 struct Seen {
     exec: Option<usize>,
@@ -171,7 +174,8 @@ fn clash(tag: u32) -> Placed
     Placed::Clash(Fault::of(reasons::WRONG_VALUE, tag))
 }
 
-// "OrderID known with another symbol: tag 55; another side: tag 54". known has no bytes where the order is not known.
+// "OrderID known with another symbol: tag 55; another side: tag 54". known has no bytes where the order is not known:
+// so `slot_at` and `head_of` promise it past the end, and an Option would say it twice.
 fn by_order(slot: &[u8], known: &[u8]) -> Placed
     ensures { result ≡ by_order slot.now (some_slot known.now) }
 {
@@ -239,6 +243,7 @@ fn in_step(slot: &[u8], known: &[u8], booked: u32) -> bool
 }
 
 // The place of the row of the order of slot, among so many. An order that has no fill has no row.
+// Book, count, load and slot stay parameters, as the public `admit` has them.
 fn place_row(book: &[u8; BOOK], last: usize, orders: usize, slot: &[u8], known: bool) -> usize
     requires { known ≡ false → find (same_order slot.now) (slots_in last book.now) ≡ none }
     ensures { result ≡ row_place (slots_in last book.now) (rows_in orders book.now) slot.now }

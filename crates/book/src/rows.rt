@@ -42,7 +42,7 @@ fn row_place(i: usize) -> usize
     ROWS_AT + i * ROW
 }
 
-// The i-th row of the memory, from 0; no bytes past its end.
+// The i-th row of the memory, from 0; no bytes past its end. A row by its place is data; beside slot_at, see there.
 fn row_at(book: &[u8; BOOK], i: usize) -> &[u8]
     ensures { result.now ≡ row_at i book.now }
 {
@@ -74,7 +74,8 @@ pub fn head_of<'a>(book: &'a [u8; BOOK], last: usize, row: &[u8]) -> &'a [u8]
     slot_at(book, n - 1)
 }
 
-// The place of the row of the order of slot, among so many; behind the last where there is none.
+// The place of the row of the order of slot, among so many; behind the last where there is none: it is
+// used as a place, that of the row to be written, and not only as none.
 pub(crate) fn find_row(book: &[u8; BOOK], last: usize, orders: usize, slot: &[u8]) -> usize
     ensures { result ≡ row_place (slots_in last book.now) (rows_in orders book.now) slot.now }
 {
@@ -91,7 +92,7 @@ pub(crate) fn find_row(book: &[u8; BOOK], last: usize, orders: usize, slot: &[u8
     orders
 }
 
-// Writes the i-th row.
+// Writes the i-th row: three numbers, read and written in the three functions below and no further, so that a struct of them would be laid out for nothing.
 fn put_row(book: &mut [u8; BOOK], i: usize, first: u32, booked: u32, waits: u32)
     ensures { book.new ≡ row_put book.old i (row_of first booked waits) }
 {

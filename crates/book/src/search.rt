@@ -43,7 +43,8 @@ impl<'a> Sought<'a> {
     }
 }
 
-// Whether two fields of an ID hold the same bytes: three words say it of fields of full width.
+// Whether two fields of an ID hold the same bytes: three words say it of fields of full width. Stays
+// three comparisons: `==` is a call for 21 bytes.
 fn same_id(x: &[u8], y: &[u8]) -> bool
     ensures { result ≡ same x.now y.now }
 {
@@ -55,7 +56,7 @@ fn same_id(x: &[u8], y: &[u8]) -> bool
         && octet::word_at(x, ID - 8) == octet::word_at(y, ID - 8)
 }
 
-// So many slots, from the front of those that the lent memory has room for.
+// So many slots, from the front of those that the lent memory has room for. The memory is bytes, as it is lent: it is cut into slots where one is looked at.
 #[derive(Clone, Copy)]
 pub(crate) struct Slots<'a> {
     all: &'a [u8],
@@ -99,7 +100,7 @@ impl<'a> Slots<'a> {
         &self.all[i * SLOT..i * SLOT + SLOT]
     }
 
-    // The place of the first that passes a test.
+    // The place of the first that passes a test. A `for` here and below: its invariant says what no slot before it passes, and `find` hands out a number alike.
     pub(crate) fn first<F: Fn(&[u8]) -> bool>(&self, passes: F) -> Option<usize>
         requires { F.IsAlwaysCallable passes }
         ensures { FindsFirst (FnReturnsAt F.Fn passes) self.now.all.now self.now.count result }

@@ -303,7 +303,7 @@ pub fn line_least(setup: Setup) -> usize
 }
 
 // Writes the line of slot n from the front of `line`, and says how long it is; where it does not fit nothing changes, and
-// the answer is 0. It has at most LINE bytes.
+// the answer is 0, as many bytes as are written then. It has at most LINE bytes.
 pub fn write_line(n: u32, s: &[u8], line: &mut [u8]) -> usize
     ensures line_after { line.new ≡ splice line.old 0 (line_of n s.now) }
     ensures value { result ≡ cond (fits_at line.old 0 (line_of n s.now)) (length (line_of n s.now)) 0 }

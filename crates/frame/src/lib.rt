@@ -57,7 +57,7 @@ fn skip(o: &[u8], s: &[u8]) -> usize
     found
 }
 
-// The last field of a message whose bytes before it sum to c.
+// The last field of a message whose bytes before it sum to c: seven bytes, for which a Text has 512.
 fn trailer(c: u8) -> [u8; TRAILER_WIDTH]
     ensures { result ≡ trailer_of c }
 {

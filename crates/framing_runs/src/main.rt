@@ -9,7 +9,7 @@ use std::io::Read;
 // The most bytes of input that are read.
 const INPUT: usize = 65536;
 
-// Turns each `|` into byte 1.
+// Turns each `|` into byte 1. wire_runs has the other way: a crate for both would be no plainer.
 fn bars(s: &mut [u8]) {
     for b in s.iter_mut() {
         if *b == b'|' {

@@ -47,6 +47,7 @@ fn complain(rt: &impl Eprint, why: &str) {
     let _ = rt.eprint(why);
 }
 
+// The two programs: what differs is the page's size, what writes it, and the words.
 pub fn list_input(rt: &(impl Input + Print + Eprint)) {
     let complaints = Complaints {
         unread: "list: the notes could not be read\n",

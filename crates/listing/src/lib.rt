@@ -57,7 +57,8 @@ fn shares_in(s: &[u8]) -> u64
     }
 }
 
-// How many of the slots from number from + 1 to the last are fills. That the last is one of the memory's is asked of this and the next two: Counts, which
+// How many of the slots from number from + 1 to the last are fills: by a `for`, as the definition counts what is left behind from.
+// That the last is one of the memory's is asked of this and the next two: Counts, which
 // has it, is for any numbers.
 fn count_from(book: &[u8; BOOK], from: usize, last: usize) -> u64
     requires { last ≤ most_slots }
@@ -119,7 +120,8 @@ fn print_waiting(m: Counts, book: &[u8; BOOK], page: &mut [u8]) -> usize
     put_lines(page, end, book, acked, last)
 }
 
-// Writes a text from the front of out, and says how long it is; where it does not fit nothing is written, and the answer is 0.
+// Writes a text from the front of out, and says how long it is; where it does not fit nothing is written, and the answer is 0,
+// as many bytes as are written then.
 pub fn put_front(out: &mut [u8], text: &[u8]) -> usize
     ensures { (result ≡ written out.old text.now) × (out.new ≡ splice out.old 0 text.now) }
 {
@@ -144,7 +146,8 @@ pub fn day_of(notes: &[u8], book: &mut [u8; BOOK], page: &mut [u8]) -> Result<Co
     }
 }
 
-// Writes the listing over a page that has room for any, and says how long it is.
+// Writes the listing over a page that has room for any, and says how long it is. Beside the totals' print and what calls it: what both have in common is in
+// day_of and put_front.
 fn print(notes: &[u8], book: &mut [u8; BOOK], page: &mut [u8]) -> usize
     requires { length page.old ≡ longest_file }
     ensures { Prints notes.now book.old page.old result book.new page.new }

@@ -44,7 +44,7 @@ pub fn part(s: &[u8], at: usize, n: usize) -> &[u8]
     &s[at..at + n]
 }
 
-// The number that the eight bytes at a place are, low byte first, and 0 where there are not eight. Texts that differ in it
+// The number that the eight bytes at a place are, low byte first, and 0 where there are not eight, as it promises. Texts that differ in it
 // are not the same, and it is read at once.
 pub fn word_at(s: &[u8], at: usize) -> u64
     ensures { result ≡ word_at at s.now }
@@ -74,6 +74,7 @@ fn none_of(s: &[u8], b: u8) -> bool
 }
 
 // How many bytes stand before the first b, where these may be many: as long as none of them is b they are passed over many at once.
+// Stays a `while`: how far it goes is told by what it finds.
 pub fn until_far(s: &[u8], b: u8) -> usize
     ensures { result ≡ until_byte b s.now }
 {
@@ -154,7 +155,8 @@ fn bytes_at<const N: usize>(s: &[u8], at: usize) -> [u8; N]
     bytes
 }
 
-// The number of the four bytes at a place, or of as many as there are.
+// The number of the four bytes at a place, or of as many as there are. Four and eight bytes have public names, read and written, each a line over what is
+// generic.
 pub fn four_at(s: &[u8], at: usize) -> u32
     ensures { result ≡ big_endian (part at 4 s.now) }
 {

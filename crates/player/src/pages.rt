@@ -37,6 +37,7 @@ fn page_call(
     page::page(marks, book, &mut rows[..n])
 }
 
+// By hand: the row that C is lent derives no equality.
 fn is_filled(row: &OrderRow) -> bool {
     row.id == FILLED.id && row.waiting == FILLED.waiting
 }
@@ -60,7 +61,7 @@ impl Display for Rows<'_> {
         }
         for row in self.0 {
             let id = Coded(octet::text_of(&row.id));
-            let waiting = row.waiting;
+            let waiting = row.waiting; // as the text below names it
             write!(f, " {id}={waiting}")?;
         }
         Ok(())

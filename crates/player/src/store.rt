@@ -1,4 +1,5 @@
 // Bytes one after another, at the front of memory that is lent: a line of the script that comes in pieces, and the journal.
+// An array with a length: no memory is taken from the heap.
 ghost use Rattle.std.specs.Prelude.{◌≤◌, length};
 
 #[derive(Drop)]

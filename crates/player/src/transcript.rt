@@ -69,7 +69,7 @@ impl Entry {
     fn put_numbers(&mut self, world: &World<'_>) -> io::Result<()> {
         let session = world.state.session;
         let marks = world.state.marks;
-        let tally = world.tally;
+        let tally = world.tally; // as the texts below name them
         write!(self.line, " ; phase {}", session.phase.number())?;
         write!(self.line, " e {} o {}", session.e, session.o)?;
         write!(self.line, " fills {}", marks.load.fills)?;

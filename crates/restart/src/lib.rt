@@ -34,7 +34,8 @@ pub struct Restarted {
     pub whole: usize,
 }
 
-// What one note does: the restart goes on with these counts, ends before a part, or refuses. Stays an enum: these are three answers.
+// What one note does: the restart goes on with these counts, ends before a part, or refuses. Stays an enum: these are
+// three answers, and the loop tells them apart in one place.
 #[derive(Clone, Copy)]
 pub enum Step {
     On(Counts),
@@ -42,7 +43,7 @@ pub enum Step {
     Bad,
 }
 
-// The load that is among the counts, as the book asks for it.
+// The load that is among the counts, as the book asks for it: three numbers, see Counts.
 pub fn load_in(m: Counts) -> Load
     ensures { result ≡ load_in m }
 {
@@ -132,6 +133,7 @@ fn step_books(mem: &mut [u8; BOOK], m: Counts, e: u32, o: u32, slot: &[u8]) -> S
     if !is_next(m, e, o) || !fill::is_lawful(slot) {
         return Step::Bad;
     }
+    // written out, arm by arm: the wrong edit `twice` changes one of them
     match book::admit(mem, last, load_in(m), slot) {
         Admitted::Clash(_) => Step::Bad,
         Admitted::Already => Step::Bad,

@@ -46,7 +46,8 @@ pub enum Verdict {
 }
 
 // What the steps read off a message: its type, its number, where it has one, which ID is not the agreed one, what is wrong by steps 5 to 7,
-// `43=Y`, `123=Y`, and the numbers of 7, 16 and 36.
+// `43=Y`, `123=Y`, and the numbers of 7, 16 and 36. Each bool is a fact of the message of its own; the three numbers are used where the table has found
+// them there.
 #[derive(Clone, Copy)]
 pub struct Findings {
     pub kind: Kind,

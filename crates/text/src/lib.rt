@@ -95,7 +95,7 @@ impl Text {
         }
     }
 
-    // All bytes of s more: at once where there is room for them.
+    // All bytes of s more: at once where there is room for them. The length is read first: the array is lent then.
     pub fn all(&mut self, s: &[u8])
         ensures { self.new ≡ puts self.old s.now }
     {
@@ -232,7 +232,7 @@ fn last_digit(n: u64) -> u8
     b'0' + (n % 10) as u8
 }
 
-// The digit of n that has k digits after it.
+// The digit of n that has k digits after it: `pow` would loop as often.
 #[tactic(auto, using(crate::proofs::Decimals::tenths))]
 fn digit_of(n: u64, k: usize) -> u8
     ensures { result ≡ 48 + n / 10 ^ k % 10 }

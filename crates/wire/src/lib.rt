@@ -220,7 +220,8 @@ pub fn write(
     message.place(reply, at)
 }
 
-// Writes the messages of a reply from the buffer's start, and says where they end; nothing into a buffer under 512 bytes.
+// Writes the messages of a reply from the buffer's start, and says where they end; nothing into a buffer under 512 bytes, so 0
+// bytes then.
 #[tactic(auto, using(crate::proofs::Replies::replies), unfolding(crate::specs::Messages::reply_of))]
 pub fn write_reply(
     setup: Setup,

@@ -14,7 +14,7 @@ fn id(s: &[u8]) -> Id {
     Id { bytes, len }
 }
 
-// Turns each byte 1 into `|`.
+// Turns each byte 1 into `|`. framing_runs has the other way: a crate for both would be no plainer.
 fn bars(s: &mut [u8]) {
     for b in s.iter_mut() {
         if *b == BAR {

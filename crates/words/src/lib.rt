@@ -1,4 +1,5 @@
 // What a call answers, in words: a word for each case of an answer, and its values after it, as the transcript of `replay` has them.
+// Not by Display: no clause could say which lent bytes that writes.
 #![tactic(auto)]
 
 ghost use Rattle.std.specs.Prelude.{◌≡◌};
