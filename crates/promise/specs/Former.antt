@@ -20,7 +20,8 @@ use Rattle.restart.specs.Restart.{restart}
 use Rattle.tally.specs.declared.Tally.{Tally}
 use Rattle.receiver.specs.State.{State, Did, quiet, session_of, with_session, note_of_change}
 use Rattle.receiver.specs.Calls.{lost, Deed, Refuse, Say as Saying, Keep, deed_of, booked, offer, begin_again, acknowledge, new_day, restarted}
-use Rattle.receiver.specs.Receiver.{What, Own-call, Line-lost, Message, Offer, Begin-again, Acknowledge, New-day, Restart, Lent, refusal_of, unless-refused, Result, result_of, call}
+use Rattle.receiver.specs.Receiver.{What, Own-call, Line-lost, Message, Offer, Begin-again, Acknowledge, New-day, Restart}
+use Rattle.receiver.specs.Receiver.{Lent, refusal_of, unless-refused, Result, result_of, call}
 use Rattle.receiver.specs.declared.Answer.{Answer}
 use Rattle.receiver.specs.declared.Answer.TheVariants.{Done, Refused, More, Garbled, Framed}
 use Rattle.promise.specs.WrittenRead.{fields_in, stamp_of}

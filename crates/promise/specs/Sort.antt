@@ -68,7 +68,16 @@ pub record Sort : Type 0 where
   pub notes : Option (List ℕ)
 
 abbrev pub sort_of : What → Sort
-sort_of (Own-call own time) = record { lent = reply_and_note; time = some time; phases = phases_of_own own; message = none; acks = none; begins = false; clears = false; notes = none }
+sort_of (Own-call own time) = record {
+  lent = reply_and_note;
+  time = some time;
+  phases = phases_of_own own;
+  message = none;
+  acks = none;
+  begins = false;
+  clears = false;
+  notes = none;
+}
 sort_of Line-lost = record { lent = no_buffer; time = none; phases = on_the_line; message = none; acks = none; begins = false; clears = false; notes = none }
 sort_of (Message time s) = record { lent = reply_and_note; time = some time; phases = on_the_line; message = some s; acks = none; begins = false; clears = false; notes = none }
 sort_of Offer = record { lent = line_alone; time = none; phases = any_phase; message = none; acks = none; begins = false; clears = false; notes = none }
