@@ -114,13 +114,13 @@ module _ (s : List ℕ) where
     unfolding digits_at_front
     value-is = rw e
 
-    stray-mark : until_byte 1 s ≡ d.len + until_byte 1 (drop d.len s)
+    pub stray-mark : until_byte 1 s ≡ d.len + until_byte 1 (drop d.len s)
     stray-mark = behind d.len s (omega (arith, len_is))
 
     run_is : tagged s ≡ true → digit_run s ≡ d.len
     run_is h = omega (arith, len_is, tagged-few h)
 
-    tag-mark : tagged s ≡ true → until_byte 1 s ≡ d.len + 1 + until_byte 1 (drop (d.len + 1) s)
+    pub tag-mark : tagged s ≡ true → until_byte 1 s ≡ d.len + 1 + until_byte 1 (drop (d.len + 1) s)
     tag-mark h = past-run (tagged-equals h) ∙ ap (λ (k : ℕ). k + 1 + until_byte 1 (drop (k + 1) s)) (run_is h)
 
     same_tag : tagged s ≡ true → tag_of piece ≡ d.value
@@ -129,13 +129,13 @@ module _ (s : List ℕ) where
         ∙ ap digits (part-part 0 (until_byte 1 s) 0 d.len s (omega (arith, run_inside, len_is)))
         ∙ sym value-is
 
-    is_field : (at m : ℕ) → tagged s ≡ true → m ≡ until_byte 1 (drop (d.len + 1) s) → field d.value (at + (d.len + 1)) m ≡ piece_at at piece
+    pub is_field : (at m : ℕ) → tagged s ≡ true → m ≡ until_byte 1 (drop (d.len + 1) s) → field d.value (at + (d.len + 1)) m ≡ piece_at at piece
     unfolding piece_at
     is_field at m h g =
         let l : length piece - (d.len + 1) ≡ m = omega (arith, piece-length, tag-mark h) in
         rw (same-tagged, h, same_tag h, same-run, run_is h, l)
 
-  is-stray : (at : ℕ) → tagged s ≡ false → None ≡ piece_at at piece
+  pub is-stray : (at : ℕ) → tagged s ≡ false → None ≡ piece_at at piece
   unfolding piece_at
   is-stray at h = rw (same-tagged, h)
 
@@ -143,7 +143,7 @@ module _ (s : List ℕ) where
 abbrev rest_of : List ℕ → ℕ → List ℕ
 rest_of body at = take (length body - at) (drop at body)
 
-step_is : (at : ℕ) (body : List ℕ) (g : Piece) (m : ℕ) → g ≡ piece_at at (piece (rest_of body at)) → m ≡ min (at + until_byte 1 (rest_of body at) + 1) (length body)
+pub step_is : (at : ℕ) (body : List ℕ) (g : Piece) (m : ℕ) → g ≡ piece_at at (piece (rest_of body at)) → m ≡ min (at + until_byte 1 (rest_of body at) + 1) (length body)
     → record { piece = g; next = m } ≡ step_of at body
 unfolding step_of
 step_is at body g m e f = let r : rest_of body at ≡ drop at body = part-rest body at in rw (e, f, r)

@@ -27,7 +27,7 @@ use Rattle.frame.proofs.Agree.{agree-append}
 
 pub ruleset rests = (part-rest)
 
-judge-two : (o s : List ℕ)
+pub judge-two : (o s : List ℕ)
     → judge_opening o s ≡ cond (agree o s) (cond (agree (bytes_of "9=") (drop (length o) s)) (judge_digits (length o + 2) s) (Err Failed)) (Err Failed)
 unfolding judge_opening
 judge-two o s =

@@ -18,10 +18,13 @@ pub enum Found {
 
 // Why no message stands at the front: bytes are missing and nothing failed, or something failed.
 #[derive(Clone, Copy, PartialEq, Eq)]
-enum Unframed {
+pub enum Unframed {
     Short,
     Failed,
 }
+
+// How far the judging came: the length of a whole message, or why there is none.
+pub type Standing = Result<usize, Unframed>;
 
 // "`8=FIX.4.2|`".
 pub const OPENING: [u8; 10] = *b"8=FIX.4.2\x01";
@@ -91,7 +94,7 @@ fn body_ok(b: &[u8]) -> bool
 
 // The rest when the whole message is there: a body of n bytes from `at` on, and the trailer. That `at` lies within s is asked of this and the next two: each
 // steps on, and a struct of both would be made anew at every step.
-fn judge_whole(s: &[u8], at: usize, n: usize) -> Result<usize, Unframed>
+fn judge_whole(s: &[u8], at: usize, n: usize) -> Standing
     requires { (at ≤ length s.now) × ((5 ≤ n) × (n ≤ 4072)) }
     ensures { result ≡ judge_whole at n s.now }
 {
@@ -111,7 +114,7 @@ fn judge_whole(s: &[u8], at: usize, n: usize) -> Result<usize, Unframed>
 
 // The length's value n, where the body begins at `at`.
 #[tactic(auto, unfolding(crate::specs::Finding::judge_length))]
-fn judge_length(s: &[u8], at: usize, n: usize) -> Result<usize, Unframed>
+fn judge_length(s: &[u8], at: usize, n: usize) -> Standing
     requires { at ≤ length s.now }
     ensures { result ≡ judge_length at n s.now }
 {
@@ -122,7 +125,7 @@ fn judge_length(s: &[u8], at: usize, n: usize) -> Result<usize, Unframed>
 }
 
 // The length's digits from `at` on, and the `|` after them. A fifth digit fails at once, so no more than five are read.
-fn judge_digits(s: &[u8], at: usize) -> Result<usize, Unframed>
+fn judge_digits(s: &[u8], at: usize) -> Standing
     requires { at ≤ length s.now }
     ensures { result ≡ judge_digits at s.now }
 {
@@ -156,7 +159,7 @@ fn begins(o: &[u8], s: &[u8]) -> Result<(), Unframed>
 
 // The opening o and the length's tag, as far as bytes have come, and what follows them.
 #[tactic(auto, using(crate::proofs::Steps::openings))]
-fn judge_opening(o: &[u8], s: &[u8]) -> Result<usize, Unframed>
+fn judge_opening(o: &[u8], s: &[u8]) -> Standing
     ensures { result ≡ judge_opening o.now s.now }
 {
     begins(o, s)?;

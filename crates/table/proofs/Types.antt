@@ -33,7 +33,7 @@ module _ (setup : Setup) where
   kind-ucc t l a b c = rw (three t l, a, b, c)
 
   -- no other type has more or fewer bytes than one
-  kind-long : (t : List ℕ) → is "UCC" t ≡ false → (length t ≡ 1 → ⊥) → kind_of setup t ≡ kind.Unlisted
+  pub kind-long : (t : List ℕ) → is "UCC" t ≡ false → (length t ≡ 1 → ⊥) → kind_of setup t ≡ kind.Unlisted
   unfolding kind_of
   kind-long t e h =
       let n : (b : ℕ) → same (b ∷ []) t ≡ false = λ b. length-differs (b ∷ []) t (λ p. h (sym p)) in

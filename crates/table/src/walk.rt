@@ -16,12 +16,16 @@ use answer::{Fault, Kind, NINE_DIGITS, Setup, reasons};
 use field::Look;
 use value::Flaw;
 
-// The number of a tag.
+// The number of a tag. One that is not there has 0, without a call: every message is asked for the numbers of some tags that it does not have.
 pub fn number_at(look: Look, tag: u32) -> u32
     ensures value { result ≡ number_of (seen_by look.entry) tag }
     ensures upper_bound { result ≤ nine_digits }
 {
-    value::number_of(look.value(tag))
+    let v = look.value(tag);
+    if v.is_empty() {
+        return 0;
+    }
+    value::number_of(v)
 }
 
 // A value of good form, by whether it is in range.
@@ -88,7 +92,7 @@ fn flaw_fault(flaw: Flaw, tag: u32) -> Fault
 // What judges the fields of a message: a look at its body, and what it is judged by beside.
 #[derive(Clone, Copy)]
 struct Judge<'a> {
-    look: Look<'a>,
+    look: Look<'a, 'a>,
     given: Given,
 }
 

@@ -120,7 +120,7 @@ again-is (Unlawful at) k len book e = absurd cc
 again-is (Again q w) k len book e = let f : k ≡ counts_of q = cc in ap (λ (x : Counts). totals_in (marks_from x) book) f
 
 -- of a file that keeps no day, the line that says so
-damaged-for : (o : Outcome) (len r : ℕ) (book : List ℕ) → Err r ≡ day_by len o → said_by o ≡ totals_for book o
+pub damaged-for : (o : Outcome) (len r : ℕ) (book : List ℕ) → Err r ≡ day_by len o → said_by o ≡ totals_for book o
 damaged-for (Again q w) len r book e = absurd cc
 damaged-for (Unlawful p) len r book e = refl
 
