@@ -130,14 +130,17 @@ fn has_room(dst: &[u8], at: usize, n: usize) -> bool
     at <= dst.len() && n <= dst.len() - at
 }
 
-// Writes src over dst from place `at` on. Where it does not fit nothing changes, and the answer is false.
+// Writes src over dst from place `at` on. Where it does not fit nothing changes, and the answer is false. Byte by byte, since of a `copy_from_slice` that is
+// inlined where dst may be anything there stays a call of `memmove`, a name that the archive for C would need from outside.
 pub fn copy_into(dst: &mut [u8], at: usize, src: &[u8]) -> bool
     ensures { (result ≡ fits_at dst.old at src.now) × (dst.new ≡ splice dst.old at src.now) }
 {
     if !has_room(dst, at, src.len()) {
         return false;
     }
-    dst[at..at + src.len()].copy_from_slice(src);
+    for (i, b) in src.iter().enumerate() {
+        dst[at + i] = *b;
+    }
     true
 }
 
