@@ -401,14 +401,12 @@ struct Bench {
     void stages() {
         const string m = report(FILLS, FILLS - 1, ORDERS - 1), body = m.substr(16, m.size() - 23);
         const vector<uint8_t> slot(full.book.begin() + (FILLS - 1) * SLOT, full.book.begin() + FILLS * SLOT);
-        // of each tag where its value stands, how long that is and how often the tag stands
         size_t cells[3 * TAGS];
-        const size_t *exec_id = cells + 3 * 14;
         auto find = [&]() { return bench_find(bytes_of(m), m.size()); };
         auto index = [&]() { return bench_index(bytes_of(body), body.size(), cells); };
         auto judge = [&]() { return bench_judge(OURS, 4, THEIRS, 4, FILLS, bytes_of(body), body.size()); };
         auto admit = [&](int fills) { return bench_admit(full.book.data(), fills, fills, ORDERS - 1, 0, slot.data(), slot.size()); };
-        if (find() != m.size() || index() != 0 || body.substr(exec_id[0], exec_id[1]) != identifier("SPHR20261113", FILLS - 1) || exec_id[2] != 1 ||
+        if (find() != m.size() || index() != 0 || body.substr(cells[14], cells[TAGS + 14]) != identifier("SPHR20261113", FILLS - 1) || cells[2 * TAGS + 14] != 1 ||
             judge() != TO_BE_BOOKED || admit(FILLS - 1) != NEW)
             give_up("a stage of the report's call");
         vector<Work> works = {

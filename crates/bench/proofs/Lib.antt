@@ -1,2 +1,3 @@
+pub mod Laying
 pub mod Told
 pub mod Unique

@@ -21,7 +21,7 @@ use Rattle.receiver.specs.declared.Told.{Told}
 use Rattle.answer.specs.declared.Outcome.{Outcome}
 use Rattle.receiver.specs.declared.Answer.{Answer}
 use Rattle.receiver.specs.declared.Answer.TheVariants.{Done, Refused, More, Garbled, Framed, Offered, None, Acked, Already, Restarted}
-use Rattle.bench.specs.Timed.{became_number, word_of, Timed, TimedFiled, scan_number, Indexed}
+use Rattle.bench.specs.Timed.{became_number, word_of, Timed, TimedFiled, scan_number, cells_of, Indexed}
 
 -- what a call does is the same whatever the tally was
 pub heard-of : (setup : Setup) (st : State) (b : Lent) (t : Tally) (w : What) {x : Told} {t' : Tally} {book book' reply reply' note note' : List ℕ}
@@ -48,10 +48,10 @@ judged-body {setup} {setup'} {s} {s'} body {index = index} p q own read e =
     ∙ ap (λ (x : Setup). judge x s (pieces_of body)) p
     ∙ ap (λ (x : Session). judge setup' x (pieces_of body)) q
 
--- what was indexed, by its fault
-pub indexed-body : (body : List ℕ) (scan : Scan) {q : Scan} {index : List Column} → q ≡ scan → (q ≡ scan_of (pieces_of body)) × (index ≡ index_of body)
-    → Indexed body (scan_number scan) index
-indexed-body body scan e f = record { fault = ap scan_number (sym e ∙ f.0); listed = f.1 }
+-- what was indexed, by its fault, and laid out
+pub indexed-body : (body : List ℕ) (scan : Scan) {q : Scan} {index : List Column} {cells : List ℕ} → q ≡ scan → (q ≡ scan_of (pieces_of body)) × (index ≡ index_of body)
+    → cells ≡ cells_of index → Indexed body (scan_number scan) cells
+indexed-body body scan e f laid = record { fault = ap scan_number (sym e ∙ f.0); listed = laid ∙ ap cells_of f.1 }
 
 -- what is no framed message has no number
 pub unframed : (a : Answer) → ((len : ℕ) (o : Outcome) → a ≡ Framed len o → ⊥) → 0 ≡ became_number a

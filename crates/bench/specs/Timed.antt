@@ -1,5 +1,5 @@
 -- What is timed: a receiver that is on, given by its numbers, and what a caller in C is told of a call, as numbers.
-use Rattle.std.specs.Prelude.{ℕ, ◌+◌, ◌*◌, ◌%◌, ◌≡◌, List, ◌++◌, length, drop, Ok, Err, None}
+use Rattle.std.specs.Prelude.{ℕ, ◌+◌, ◌*◌, ◌%◌, ◌≡◌, List, ◌++◌, length, drop, map, Ok, Err, Some}
 use Rattle.std.proofs.Math.Option.{Option, none, some}
 use Rattle.answer.specs.declared.Setup.{Setup}
 use Rattle.answer.specs.declared.Phase.TheVariants.{In}
@@ -34,10 +34,11 @@ agreed ours n theirs k = record { ours = record { bytes = ours; len = n }; their
 abbrev pub load_of : ℕ → ℕ → ℕ → Load
 load_of fills orders entries = record { fills = fills; orders = orders; entries = entries }
 
--- phase 2, E as given, nothing written yet; so many fills of one contract each, of so many orders, and entries, none acknowledged and so many offered
+-- phase 2, E as given, nothing written yet, no Resend Request either: asked is the 0 that C's receivers begin with, also where E is 0;
+-- so many fills of one contract each, of so many orders, and entries, none acknowledged and so many offered
 abbrev pub online : ℕ → Load → ℕ → Stored
 online e load offered = record {
-  session = record { phase = In; e = e; o = 1; asked = None };
+  session = record { phase = In; e = e; o = 1; asked = Some 0 };
   marks = record { last = counted load.fills load.entries; load = load; acked = 0; offered = offered; day = load.fills };
 }
 
@@ -96,10 +97,14 @@ scan_number (Ok sound) = 0
 scan_number (Err Malformed) = 1
 scan_number (Err (Empty tag)) = 2
 
+-- an index as C lends it: of each tag where the value of its first field stands, then of each how long that is, then of each how often the tag stands
+abbrev pub cells_of : List Column → List ℕ
+cells_of x = map (λ (c : Column). c.start) x ++ (map (λ (c : Column). c.len) x ++ map (λ (c : Column). c.count) x)
+
 -- the index of a body: its fault as a number, and the list as it is lent
-pub record Indexed (body : List ℕ) (r : ℕ) (index : List Column) : Type 0 where
+pub record Indexed (body : List ℕ) (r : ℕ) (index : List ℕ) : Type 0 where
   pub fault : r ≡ scan_number (scan_of (pieces_of body))
-  pub listed : index ≡ index_of body
+  pub listed : index ≡ cells_of (index_of body)
 
 -- what the session says of a message: the number of what became of it, or 14 and 15 where it is a report or a correction about which the book is to be asked
 abbrev pub verdict_number : Verdict → ℕ

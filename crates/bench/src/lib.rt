@@ -12,11 +12,11 @@ ghost use Rattle.restart.specs.Restart.{restart, told, whole_in, book_after};
 ghost use Rattle.listing.specs.Listing.{Lists};
 ghost use Rattle.receiver.specs.Steps.{Heard};
 ghost use Rattle.bench.specs.Timed.{agreed, load_of, online, became_number, word_of, TimedMessage, TimedAcknowledge, page_word, TimedPage};
-ghost use Rattle.bench.specs.Timed.{length_of, Indexed, verdict_number, admitted_number};
+ghost use Rattle.bench.specs.Timed.{length_of, cells_of, Indexed, verdict_number, admitted_number};
 
 use answer::{Id, Phase, Refusal, Setup};
 use book::{Admitted, BOOK, Load, NO_LOAD};
-use field::{Index, Look, NO_INDEX, Unsound};
+use field::{Index, Look, NO_INDEX, TAGS, Unsound};
 use frame::Found;
 use page::{OrderRow, Shown};
 use queue::Marks;
@@ -79,7 +79,8 @@ fn online(e: u32, load: Load, offered: u32) -> State
             phase: Phase::In,
             e,
             o: 1,
-            asked: None,
+            // no Resend Request was written: 0 is what C's receivers begin with, also where e is 0
+            asked: Some(0),
         },
         marks: Marks {
             last: answer::count_on(load.fills, load.entries),
@@ -226,12 +227,33 @@ pub extern "C" fn bench_find(bytes: &[u8]) -> usize
     }
 }
 
+// What C lends for the index: of each tag where the value of its first field stands, then of each how long that is, then of each how often the tag stands.
+type Cells = [usize; 3 * TAGS];
+
+// Lays an index out so: in it a tag's three numbers stand together.
+fn lay(cells: &mut Cells, columns: &Index)
+    ensures { cells.new ≡ cells_of columns.now }
+{
+    for (i, column) in columns.iter().enumerate() {
+        cells[i] = column.start;
+    }
+    for (j, column) in columns.iter().enumerate() {
+        cells[TAGS + j] = column.len;
+    }
+    for (k, column) in columns.iter().enumerate() {
+        cells[2 * TAGS + k] = column.count;
+    }
+}
+
 // The index of a body. It answers how its first fault is numbered: 0 none, 1 a piece that is no field, 2 a field without a value.
 #[unsafe(no_mangle)]
-pub extern "C" fn bench_index(body: &[u8], index: &mut Index) -> u8
+pub extern "C" fn bench_index(body: &[u8], index: &mut Cells) -> u8
     ensures { Indexed body.now result index.new }
 {
-    match field::index_into(body, index) {
+    let mut columns = NO_INDEX;
+    let scan = field::index_into(body, &mut columns);
+    lay(index, &columns);
+    match scan {
         Ok(()) => 0,
         Err(Unsound::Malformed) => 1,
         Err(Unsound::Empty(_)) => 2,
