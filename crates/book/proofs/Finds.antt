@@ -1,6 +1,6 @@
 -- Searches over the slots of a region, and what they hand back.
 --     find-inside, last-inside     past the end of the region there is nothing to find
---     order-by     a fill of an order, test by test
+--     order_told     a fill of an order, test by test.        order_is     of the order of a slot
 --     known-none, known_some     what a search hands back
 use mathlib.Core.Path.{◌≡◌, refl, sym, ap, ◌∙◌}
 use mathlib.Core.List.{List, [], ◌∷◌}
@@ -16,7 +16,7 @@ use Rattle.octet.proofs.Cases.{le-or-lt, find-later, last-other}
 use Rattle.fill.specs.Slot.{Slot, slot_width, is_fill, order_of}
 use Rattle.book.specs.Memory.{most_slots, slots_here, cells}
 use Rattle.book.specs.Place.{same_exec, same_order}
-use Rattle.book.specs.Seeing.{some_slot}
+use Rattle.book.specs.Seeing.{some_slot, is_order}
 
 -- no predicate accepts an empty slot
 pub exec-empty : (a : Slot) → same_exec a [] ≡ false
@@ -74,8 +74,12 @@ module _ (p : Slot → Bool) (passed : p [] ≡ false) where
   last-inside =
       only-inside (find_last p) (λ ss. last-other p [] ss passed) (λ s xs ys e. ap (λ (o : Option Slot). or_else o (cond (p s) (some s) none)) e)
 
--- ---- of an order
-module _ (f s : Slot) where
-  pub order-by : {a b : Bool} → is_fill s ≡ a → same (order_of f) (order_of s) ≡ b → a && b ≡ same_order f s
-  unfolding same_order
-  order-by ea eb = cc
+-- ---- of an order, by its OrderID
+module _ (id : List ℕ) (s : Slot) where
+  pub order_told : {a b : Bool} → is_fill s ≡ a → same id (order_of s) ≡ b → a && b ≡ is_order id s
+  order_told ea eb = cc
+
+-- and of that of f
+pub order_is : (f s : Slot) → is_order (order_of f) s ≡ same_order f s
+unfolding same_order
+order_is f s = refl

@@ -5,7 +5,7 @@ use Rattle.std.proofs.Math.Option.{Option, none, some}
 use Rattle.octet.specs.Bytes.{same}
 use Rattle.octet.specs.Maybe.{find, find_last, is_none}
 use Rattle.answer.specs.Numbers.{largest}
-use Rattle.fill.specs.Slot.{Slot, slot_width, is_fill, is_entry, exec_of}
+use Rattle.fill.specs.Slot.{Slot, slot_width, is_fill, is_entry, exec_of, order_of}
 use Rattle.fill.specs.Entry.{key_of}
 use Rattle.book.specs.Place.{same_exec, same_order, fill_room, orders_with}
 use Rattle.book.specs.Rows.{rows_less, day_less}
@@ -41,6 +41,10 @@ pub record FindsLast (Says : Slot → Bool → Type 0) (m : List ℕ) (n : ℕ) 
 -- a fill with that ExecID
 abbrev pub is_exec : List ℕ → Slot → Bool
 is_exec id s = is_fill s && same id (exec_of s)
+
+-- a fill of that OrderID
+abbrev pub is_order : List ℕ → Slot → Bool
+is_order id s = is_fill s && same id (order_of s)
 
 -- an entry with that key
 abbrev pub is_keyed : List ℕ → Slot → Bool

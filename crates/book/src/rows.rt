@@ -4,8 +4,9 @@ ghost use Rattle.std.specs.Prelude.{◌≡◌, ◌-◌, ◌<◌, ◌*◌, ◌+�
 ghost use Rattle.book.specs.Place.{most_orders};
 ghost use Rattle.book.specs.Rows.{row_width, first_in, booked_in, waits_in, row_of, head_of, row_place, day_with};
 ghost use Rattle.book.specs.Memory.{most_slots, rows_here, slots_in, slot_at, rows_in, row_at, row_put, row_more, row_fewer, TakesOff};
-ghost use Rattle.book.specs.Seeing.{TakesOne};
+ghost use Rattle.book.specs.Seeing.{is_order, TakesOne};
 
+use super::search::same_id;
 use super::{BOOK, ROW, ROWS, ROWS_AT, SLOTS, Sought, book_len, slot_at};
 
 // A row begins with the first of its three numbers, and has the others here.
@@ -62,8 +63,7 @@ pub fn row_in(book: &[u8; BOOK], orders: usize, i: usize) -> &[u8]
     row_at(book, i)
 }
 
-// The first fill of a row's order; no bytes where there is none of that number. Inlined, so that a search knows where it has a slot of full width.
-#[inline(always)]
+// The first fill of a row's order; no bytes where there is none of that number.
 pub fn head_of<'a>(book: &'a [u8; BOOK], last: usize, row: &[u8]) -> &'a [u8]
     ensures { result.now ≡ head_of (slots_in last book.now) row.now }
 {
@@ -72,6 +72,27 @@ pub fn head_of<'a>(book: &'a [u8; BOOK], last: usize, row: &[u8]) -> &'a [u8]
         return octet::part(book, BOOK, 0);
     }
     slot_at(book, n - 1)
+}
+
+// Whether a row is that of an order that is looked for. Each way out is of its own, and a row without a first fill leaves before there is a slot to look
+// at: nearly every row that a search passes ends here, or at the glance.
+#[inline(always)]
+fn is_row(book: &[u8; BOOK], last: usize, row: &[u8], order: &Sought) -> bool
+    ensures { result ≡ is_order order.now.id.now (head_of (slots_in last book.now) row.now) }
+{
+    let n = first_in(row) as usize;
+    if n == 0 {
+        return false;
+    }
+    if last < n {
+        return false;
+    }
+    let first = slot_at(book, n - 1);
+    let id = fill::order_of(first);
+    if !order.may_be(id) {
+        return false;
+    }
+    same_id(order.id, id) && fill::is_fill(first)
 }
 
 // The place of the row of the order of slot, among so many; behind the last where there is none: it is
@@ -84,8 +105,7 @@ pub(crate) fn find_row(book: &[u8; BOOK], last: usize, orders: usize, slot: &[u8
     // so many slots lie in the memory: of these the search knows the width
     let most = last.min(SLOTS);
     for i in 0..orders.min(ROWS) {
-        let first = head_of(book, most, row_at(book, i));
-        if order.is(fill::order_of(first)) && fill::is_fill(first) {
+        if is_row(book, most, row_at(book, i), &order) {
             return i;
         }
     }
@@ -143,6 +163,13 @@ pub fn day_with(day: u32, slot: &[u8]) -> u32
     }
 }
 
+// What is left of n with k taken off; it stops at 0.
+fn less(n: u32, k: u32) -> u32
+    ensures { result ≡ n - k }
+{
+    n.saturating_sub(k)
+}
+
 // The row at that place, one of so many, with contracts taken off those that wait.
 fn less_in_row(book: &mut [u8; BOOK], orders: usize, row: usize, q: u32)
     ensures { book.new ≡ row_fewer book.old orders row q }
@@ -151,7 +178,7 @@ fn less_in_row(book: &mut [u8; BOOK], orders: usize, row: usize, q: u32)
         let first = first_in(row_at(book, row));
         let booked = booked_in(row_at(book, row));
         let waits = waits_in(row_at(book, row));
-        put_row(book, row, first, booked, waits.saturating_sub(q));
+        put_row(book, row, first, booked, less(waits, q));
     }
 }
 
@@ -166,7 +193,7 @@ fn take_one(book: &mut [u8; BOOK], last: usize, orders: usize, i: usize, day: u3
     let q = fill::shares_of(slot_at(book, i));
     let row = find_row(book, last, orders, slot_at(book, i));
     less_in_row(book, orders, row, q);
-    day.saturating_sub(q)
+    less(day, q)
 }
 
 // The slots after number from, up to number to, are acknowledged: what is left of the day's sum, and in the rows.

@@ -1,6 +1,6 @@
 // The slots that a search goes over, from the last to the first or from the first on. A report's time goes here: a slot is told from what is looked
 // for at a glance, and nothing but the comparisons stands in the loop.
-ghost use Rattle.std.specs.Prelude.{◌≡◌, ◌≤◌, length};
+ghost use Rattle.std.specs.Prelude.{◌≡◌, ◌≤◌, length, eqb};
 ghost use Rattle.octet.specs.Bytes.{same};
 ghost use Rattle.octet.specs.Places.{word_at};
 ghost use Rattle.fill.specs.Slot.{slot_width};
@@ -12,7 +12,7 @@ use fill::{ID, SLOT};
 // An ID that is looked for, and eight bytes of it by which others are told from it at a glance.
 #[derive(Clone, Copy)]
 pub(crate) struct Sought<'a> {
-    id: &'a [u8],
+    pub(crate) id: &'a [u8],
     at: usize,
     word: u64,
     ghost told: { word ≡ word_at at id.now },
@@ -34,18 +34,26 @@ impl<'a> Sought<'a> {
         }
     }
 
+    // Whether an ID may be this one: it has those eight bytes.
+    #[inline(always)]
+    pub(crate) fn may_be(&self, id: &[u8]) -> bool
+        ensures { result ≡ eqb (word_at self.now.at id.now) self.now.word }
+    {
+        octet::word_at(id, self.at) == self.word
+    }
+
     // Whether an ID is this one.
     #[inline(always)]
     pub(crate) fn is(&self, id: &[u8]) -> bool
         ensures { result ≡ same self.now.id.now id.now }
     {
-        octet::word_at(id, self.at) == self.word && same_id(self.id, id)
+        self.may_be(id) && same_id(self.id, id)
     }
 }
 
 // Whether two fields of an ID hold the same bytes: three words say it of fields of full width. Stays
 // three comparisons: `==` is a call for 21 bytes.
-fn same_id(x: &[u8], y: &[u8]) -> bool
+pub(crate) fn same_id(x: &[u8], y: &[u8]) -> bool
     ensures { result ≡ same x.now y.now }
 {
     if x.len() != ID || y.len() != ID {

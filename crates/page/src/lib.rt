@@ -4,7 +4,7 @@
 
 ghost use Rattle.std.specs.Prelude.{◌≡◌, ◌≤◌};
 ghost use Rattle.book.specs.Place.{most_orders};
-ghost use Rattle.page.specs.Page.{row_of, shown_of, told_of, Pages};
+ghost use Rattle.page.specs.Page.{row_of, shown_of, told_of, due_of, Pages};
 
 use answer::Refusal;
 use book::{BOOK, ORDERS};
@@ -48,6 +48,16 @@ pub fn told(marks: Marks, lent: usize) -> Result<Shown, Refusal>
     })
 }
 
+// How many rows are to be written: none where the page is refused, and never more than are lent.
+fn due(marks: Marks, lent: usize) -> usize
+    ensures { (result ≡ due_of marks lent) × (result ≤ lent) }
+{
+    match told(marks, lent) {
+        Ok(shown) => shown.orders as usize,
+        Err(_) => 0,
+    }
+}
+
 // The row of order i, from 0: its OrderID stands in its first fill.
 pub fn row_of(marks: Marks, book: &[u8; BOOK], i: usize) -> OrderRow
     ensures { result ≡ row_of marks book.now i }
@@ -66,9 +76,10 @@ pub fn row_of(marks: Marks, book: &[u8; BOOK], i: usize) -> OrderRow
 pub fn page(marks: Marks, book: &[u8; BOOK], rows: &mut [OrderRow]) -> Result<Shown, Refusal>
     ensures { Pages marks book.now rows.old result rows.new }
 {
-    let shown = told(marks, rows.len())?;
-    for (i, row) in rows[..shown.orders as usize].iter_mut().enumerate() {
+    let answer = told(marks, rows.len());
+    let n = due(marks, rows.len());
+    for (i, row) in rows[..n].iter_mut().enumerate() {
         *row = row_of(marks, book, i);
     }
-    Ok(shown)
+    answer
 }

@@ -6,32 +6,8 @@ use native.Mathlib.Omega.{arith}
 use lib.ListN.{length, take, drop, set, length-take}
 use Rattle.page.specs.Page.{page_of}
 use Rattle.page.specs.declared.OrderRow.{OrderRow}
-use Rattle.std.proofs.lemmas.Result.{err_from_is_err_and}
-use Rattle.std.specs.Prelude.{Err}
-use Rattle.page.proofs.Showing.{told-shown, told-refused, none_written}
 use Rattle.page.proofs.Upto.{upto, upto-none, upto-more, upto-front}
 use Rattle.page.proofs.page.Goals as goal
-
-pub returns-in_err-shown : goal.returns-in_err-shown
-returns-in_err-shown c =
-    let a = c.args in
-    let ys = a.rows.now in
-    let p = err_from_is_err_and c.from_residual.result c.from_residual.ensures.1 in
-    let none = told-refused a.marks (length ys) _ c.in_err-shown.ensures in
-    (p.1 ∙ ap Err p.2 ∙ c.in_err-shown.ensures, rw none (sym (none_written a.marks a.book.now ys)))
-
-pub slice_bounds-row-items-end : goal.slice_bounds-row-items-end
-slice_bounds-row-items-end c =
-    let t = told-shown c.args.marks (length c.args.rows.now) _ c.in_ok-shown.ensures in
-    let g : c.in_ok-shown.shown.orders ≤ length c.args.rows.now = omega arith in
-    g
-
-pub slice_bounds-row-items-end-2 : goal.slice_bounds-row-items-end-2
-slice_bounds-row-items-end-2 c =
-    let t = told-shown c.args.marks (length c.args.rows.now) _ c.in_ok-shown.ensures in
-    let n = c.in_ok-shown.shown.orders in
-    let g : n ≡ length (take n c.args.rows.now) = simp length-take (omega arith) in
-    g
 
 pub loop-i-init : goal.loop-i-init
 loop-i-init c = sym (upto-none c.args.marks c.args.book.now _)
@@ -41,7 +17,7 @@ loop-i-preserved c =
     let a = c.args in
     let b = a.book.now in
     let i = c.loop-i.i in
-    let xs = take c.in_ok-shown.shown.orders a.rows.now in
+    let xs = take c.due-n.result a.rows.now in
     let more : i < length xs = c.loop-i-test.true in
     ap₂ (λ (l : List OrderRow) (r : OrderRow). set l i r) c.loop-i.invariant c.row_of.ensures ∙ upto-more a.marks b i xs more
 
@@ -50,15 +26,14 @@ returns c =
     let m = c.args.marks in
     let b = c.args.book.now in
     let ys = c.args.rows.now in
-    let n = c.in_ok-shown.shown.orders in
-    let t = told-shown m (length ys) _ c.in_ok-shown.ensures in
-    let some : n ≤ length ys = omega arith in
+    let n = c.due-n.result in
+    let some : n ≤ length ys = c.due-n.ensures.1 in
     let lx : length (take n ys) ≡ n = simp length-take (omega arith) in
     let far : length (take n ys) ≤ c.loop-i.i = c.loop-i-test.false in
     let near : c.loop-i.i ≤ length (take n ys) = c.loop-i.auto.i-end in
     let done : c.loop-i.i ≡ n = omega arith in (
-      c.in_ok-shown.ensures,
+      c.told-answer.ensures,
       ap (λ (l : List OrderRow). l ++ drop n ys) (c.loop-i.invariant ∙ ap (λ (k : ℕ). upto m b k (take n ys)) done)
           ∙ upto-front m b n ys some
-          ∙ ap (λ (k : ℕ). page_of m b k ++ drop k ys) t.1,
+          ∙ ap (λ (k : ℕ). page_of m b k ++ drop k ys) c.due-n.ensures.0,
     )

@@ -12,7 +12,7 @@ returns-then-row-orders c =
     let booked = c.booked_in-booked.ensures ∙ ap booked_in c.row_at-then-row-orders.ensures in
     let waits = c.waits_in-waits.ensures ∙ ap waits_in c.row_at-then-row-orders-2.ensures in
     c.put_row.ensures
-    ∙ fewer-old a.book.now a.row a.orders _ _ _ a.q (omega arith) first booked (c.saturating_sub.ensures ∙ ap (λ (n : ℕ). n - a.q) waits)
+    ∙ fewer-old a.book.now a.row a.orders _ _ _ a.q (omega arith) first booked (c.less.ensures ∙ ap (λ (n : ℕ). n - a.q) waits)
 
 pub returns-else-row-orders : goal.returns-else-row-orders
 returns-else-row-orders c = let a = c.args in fewer-out a.book.now a.row a.orders a.q (omega arith)

@@ -21,4 +21,4 @@ returns c =
     let fill : is_fill s ≡ true = ap is_fill (sym c.slot_at.ensures) ∙ sym c.is_fill.ensures ∙ c.if-not-is_fill.false in
     let q = c.shares_of-q.ensures ∙ ap shares_of c.slot_at-2.ensures in
     let row = c.find_row-row.ensures ∙ ap (row_place (slots_in a.last m) (rows_in a.orders m)) c.slot_at-3.ensures in
-    takes-fill m c.book_len.ensures.book_len a.last a.orders s _ _ a.day _ _ fill q row c.less_in_row.ensures c.saturating_sub.ensures
+    takes-fill m c.book_len.ensures.book_len a.last a.orders s _ _ a.day _ _ fill q row c.less_in_row.ensures c.less.ensures
