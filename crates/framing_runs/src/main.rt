@@ -12,9 +12,7 @@ const INPUT: usize = 65536;
 // Turns each `|` into byte 1. wire_runs has the other way: a crate for both would be no plainer.
 fn bars(s: &mut [u8]) {
     for b in s.iter_mut() {
-        if *b == b'|' {
-            *b = 1;
-        }
+        *b = if *b == b'|' { 1 } else { *b };
     }
 }
 

@@ -1,9 +1,13 @@
 // A call, handed to the receiver, which is lent buffers that are filled anew.
+ghost use Rattle.std.specs.Prelude.{◌≡◌, min, length};
+ghost use Rattle.receiver.specs.Steps.{Messaged};
+
 use super::script::Ask;
 use super::transcript::Written;
 use super::{LENT, World};
 use answer::Setup;
-use receiver::Told;
+use book::BOOK;
+use receiver::{State, Told};
 use session::Own;
 use tally::Tally;
 
@@ -50,9 +54,28 @@ impl Lent {
 }
 
 // As much of a buffer as the script says.
-fn lent_of(buffer: &mut [u8], size: usize) -> &mut [u8] {
+fn lent_of(buffer: &mut [u8], size: usize) -> &mut [u8]
+    ensures { length result.now ≡ min size (length buffer.old) }
+{
     let n = size.min(buffer.len());
     &mut buffer[..n]
+}
+
+// The message call. What is lent for what stands in its contract: its last buffers are of one type, and so are its two texts.
+fn message_call(
+    setup: Setup,
+    st: State,
+    tally: &mut Tally,
+    time: &[u8],
+    given: &[u8],
+    book: &mut [u8; BOOK],
+    reply: &mut [u8],
+    note: &mut [u8],
+) -> Told
+    ensures { Messaged setup st tally.old time.now given.now result tally.new
+        book.old book.new reply.old reply.new note.old note.new }
+{
+    receiver::message(setup, st, tally, time, given, book, reply, note)
 }
 
 impl World<'_> {
@@ -76,7 +99,7 @@ impl World<'_> {
             Ask::Own(Own::Close, time) => receiver::close(setup, st, time, reply, note),
             Ask::Lost => receiver::line_lost(setup, st),
             Ask::Message(time, given) => {
-                receiver::message(setup, st, tally, time, given, book, reply, note)
+                message_call(setup, st, tally, time, given, book, reply, note)
             }
             Ask::Offer => receiver::offer(setup, st, book, line),
             Ask::Again => receiver::begin_again(setup, st),

@@ -2,8 +2,8 @@
 ghost use Rattle.std.specs.Prelude.{◌<◌, length, IfSome};
 
 use answer::BAR;
-use std::fmt;
-use std::fmt::Display;
+use std::io;
+use std::io::Write;
 
 // ---- a word of the script, decoded
 
@@ -58,31 +58,38 @@ pub(crate) fn decode<'a>(word: &[u8], room: &'a mut [u8]) -> Option<(&'a [u8], &
 
 // ---- bytes for the transcript, encoded
 
-// Bytes, which are shown in the code: `-` for none, and a lone `-` as a hex byte.
-#[derive(Clone, Copy)]
-pub(crate) struct Coded<'a>(pub(crate) &'a [u8]);
+const DIGITS: [u8; 16] = *b"0123456789abcdef";
 
-impl Display for Coded<'_> {
-    fn fmt<W: fmt::Write>(&self, f: &mut fmt::Formatter<W>) -> fmt::Result {
-        match self.0 {
-            b"" => f.write_str("-"),
-            b"-" => f.write_str("\\2d"),
-            bytes => {
-                for b in bytes {
-                    show_byte(f, *b)?;
-                }
-                Ok(())
-            }
-        }
-    }
+// A byte as two hex digits.
+fn put_hex(out: &mut impl Write, b: u8) -> io::Result<()> {
+    out.write_all(&[
+        b'\\',
+        DIGITS[usize::from(b / 16)],
+        DIGITS[usize::from(b % 16)],
+    ])
 }
 
 // One byte in the code.
-fn show_byte<W: fmt::Write>(f: &mut fmt::Formatter<W>, b: u8) -> fmt::Result {
+fn put_byte(out: &mut impl Write, b: u8) -> io::Result<()> {
     match b {
-        BAR => f.write_char('|'),
-        b'|' | b'\\' => write!(f, "\\{b:02x}"),
-        b'!'..=b'~' => f.write_char(char::from(b)),
-        _ => write!(f, "\\{b:02x}"),
+        BAR => out.write_all(b"|"),
+        b'|' | b'\\' => put_hex(out, b),
+        b'!'..=b'~' => out.write_all(&[b]),
+        _ => put_hex(out, b),
+    }
+}
+
+// Bytes in the code: `-` for none, and a lone `-` as a hex byte. Byte by byte to what writes, and by no `Display`: nearly all of a line is this, and a byte
+// that goes through a formatter takes ten times as long.
+pub(crate) fn put_coded(out: &mut impl Write, bytes: &[u8]) -> io::Result<()> {
+    match bytes {
+        b"" => out.write_all(b"-"),
+        b"-" => put_hex(out, b'-'),
+        _ => {
+            for b in bytes {
+                put_byte(out, *b)?;
+            }
+            Ok(())
+        }
     }
 }

@@ -3,15 +3,13 @@ ghost use Rattle.std.specs.Prelude.{◌≡◌, ◌≤◌, take, drop};
 ghost use Rattle.page.specs.Page.{Pages};
 
 use super::World;
-use super::code::Coded;
 use super::transcript::{Entry, Written};
 use answer::Refusal;
 use book::BOOK;
 use page::{OrderRow, Shown};
 use queue::Marks;
 use receiver::Answer;
-use std::fmt::Display;
-use std::{fmt, io};
+use std::io;
 
 // The most rows that are lent.
 pub(crate) const ROWS: usize = 4096;
@@ -51,21 +49,16 @@ fn is_padded(row: &OrderRow) -> bool {
 // ---- what is written of a page
 
 // Rows, which are shown by the OrderID in the code and what waits, each after a space; `-` for none.
-#[derive(Clone, Copy)]
-struct Rows<'a>(&'a [OrderRow]);
-
-impl Display for Rows<'_> {
-    fn fmt<W: fmt::Write>(&self, f: &mut fmt::Formatter<W>) -> fmt::Result {
-        if self.0.is_empty() {
-            return f.write_str(" -");
-        }
-        for row in self.0 {
-            let id = Coded(octet::text_of(&row.id));
-            let waiting = row.waiting; // as the text below names it
-            write!(f, " {id}={waiting}")?;
-        }
-        Ok(())
+fn put_rows(entry: &mut Entry, rows: &[OrderRow]) -> io::Result<()> {
+    if rows.is_empty() {
+        return entry.put(" -");
     }
+    for row in rows {
+        entry.put_bytes(b" ", octet::text_of(&row.id))?;
+        let waiting = row.waiting; // as the text below names it
+        entry.put(format_args!("={waiting}"))?;
+    }
+    Ok(())
 }
 
 impl World<'_> {
@@ -87,7 +80,7 @@ impl World<'_> {
         let kept = written.iter().all(is_padded) && left.iter().all(is_filled);
         entry.put_call(self, Written::NOTHING)?;
         entry.put(" ; rows")?;
-        entry.put(Rows(written))?;
+        put_rows(&mut entry, written)?;
         entry.end(rt, !kept)
     }
 }

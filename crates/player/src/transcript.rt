@@ -1,10 +1,10 @@
 // What is written of a call: a line of the transcript.
 use super::World;
-use super::code::Coded;
+use super::code::put_coded;
 use receiver::Answer;
 use std::fmt::Display;
+use std::io;
 use std::io::{Cursor, Write};
-use std::{fmt, io};
 use text::Text;
 
 // A line of the transcript has room: the answer and the numbers take a few hundred bytes, and a byte of a lent buffer at most three.
@@ -33,13 +33,10 @@ impl Written<'_> {
     };
 }
 
-impl Display for Written<'_> {
-    fn fmt<W: fmt::Write>(&self, f: &mut fmt::Formatter<W>) -> fmt::Result {
-        let reply = Coded(self.reply);
-        let note = Coded(self.note);
-        let line = Coded(self.line);
-        write!(f, " ; reply {reply} ; note {note} ; line {line}")
-    }
+// A number after what it is.
+fn say_number(said: &mut Text, name: &[u8], n: u32) {
+    said.all(name);
+    said.decimal(u64::from(n));
 }
 
 impl Entry {
@@ -65,30 +62,40 @@ impl Entry {
         }
     }
 
-    // The numbers of the state, and of the tally. How many entries there are is said where there are any.
+    // The numbers of the state, and of the tally, in a text of their own. How many entries there are is said where there are any.
     fn put_numbers(&mut self, world: &World<'_>) -> io::Result<()> {
         let session = world.state.session;
         let marks = world.state.marks;
-        let tally = world.tally; // as the texts below name them
-        write!(self.line, " ; phase {}", session.phase.number())?;
-        write!(self.line, " e {} o {}", session.e, session.o)?;
-        write!(self.line, " fills {}", marks.load.fills)?;
+        let tally = world.tally;
+        let mut said = Text::new();
+        say_number(&mut said, b" ; phase ", session.phase.number());
+        say_number(&mut said, b" e ", session.e);
+        say_number(&mut said, b" o ", session.o);
+        say_number(&mut said, b" fills ", marks.load.fills);
         if marks.load.entries != 0 {
-            write!(self.line, " entries {}", marks.load.entries)?;
+            say_number(&mut said, b" entries ", marks.load.entries);
         }
-        write!(
-            self.line,
-            " acked {} offered {}",
-            marks.acked, marks.offered
-        )?;
-        write!(self.line, " tally {} {}", tally.booked, tally.already)?;
-        write!(self.line, " {} {}", tally.rejected, tally.garbled)
+        say_number(&mut said, b" acked ", marks.acked);
+        say_number(&mut said, b" offered ", marks.offered);
+        say_number(&mut said, b" tally ", tally.booked);
+        say_number(&mut said, b" ", tally.already);
+        say_number(&mut said, b" ", tally.rejected);
+        say_number(&mut said, b" ", tally.garbled);
+        self.line.write_all(said.held())
+    }
+
+    // Bytes in the code, after what they are.
+    pub(crate) fn put_bytes(&mut self, name: &[u8], bytes: &[u8]) -> io::Result<()> {
+        self.line.write_all(name)?;
+        put_coded(&mut self.line, bytes)
     }
 
     // What every line has after its answer: the numbers, and what the call wrote to each buffer.
     pub(crate) fn put_call(&mut self, world: &World<'_>, written: Written<'_>) -> io::Result<()> {
         self.put_numbers(world)?;
-        self.put(written)
+        self.put_bytes(b" ; reply ", written.reply)?;
+        self.put_bytes(b" ; note ", written.note)?;
+        self.put_bytes(b" ; line ", written.line)
     }
 
     // Ends the line, and writes it.

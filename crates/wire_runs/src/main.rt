@@ -17,9 +17,7 @@ fn id(s: &[u8]) -> Id {
 // Turns each byte 1 into `|`. framing_runs has the other way: a crate for both would be no plainer.
 fn bars(s: &mut [u8]) {
     for b in s.iter_mut() {
-        if *b == BAR {
-            *b = b'|';
-        }
+        *b = if *b == BAR { b'|' } else { *b };
     }
 }
 
