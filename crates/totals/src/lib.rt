@@ -82,6 +82,10 @@ fn print(notes: &[u8], book: &mut [u8; BOOK], page: &mut [u8]) -> usize
     ensures { Stands (totals_of book.old notes.now) page.old result page.new
         × (result ≤ most_totals) × (book.new ≡ book_listed book.old notes.now) }
 {
+    // asked here too, so that what has no day below is damaged: the wrong edit `end_for_place` is of that alone
+    if listing::PAGE < notes.len() {
+        return listing::put_front(page, b"too long\n");
+    }
     match listing::day_of(notes, book, page) {
         Ok(m) => print_totals(marks_from(m), book, page),
         Err(len) => len,

@@ -1,6 +1,6 @@
 -- `totals::print` meets its contract: the day that is found is printed, and of a file that keeps none the line that says so.
 use mathlib.Core.Path.{sym, ap, ap₂, ◌∙◌}
-use Prim.Native.Nat.{ℕ}
+use Prim.Native.Nat.{ℕ, ◌<◌}
 use mathlib.Core.List.{List}
 use native.Mathlib.Omega.{arith}
 use lib.ListN.{length}
@@ -8,11 +8,25 @@ use Rattle.octet.specs.Splice.{splice, fits_at}
 use Rattle.octet.proofs.Cases.{cond-true}
 use Rattle.octet.proofs.Lists.{splice-nil, splice-length, fits-true}
 use Rattle.restart.specs.Restart.{restart}
-use Rattle.listing.specs.Listing.{said_of, book_listed}
-use Rattle.listing.proofs.Pages.{found, unfound}
+use Rattle.listing.specs.Listing.{said_of, too_long, book_listed}
+use Rattle.listing.proofs.Pages.{found, unfound, book-long}
 use Rattle.totals.specs.Totals.{totals_in}
-use Rattle.totals.proofs.Lines.{stands-as, totals-is, again-is, unfound-for}
+use Rattle.totals.proofs.Lines.{stands-as, totals-long, totals-is, again-is, unfound-for}
 use Rattle.totals.proofs.print.Goals as goal
+
+pub returns-then-notes-gt-PAGE : goal.returns-then-notes-gt-PAGE
+returns-then-notes-gt-PAGE c =
+    let a = c.args in
+    let l = a.notes.now in
+    let page = a.page.now in
+    let book = a.book.now in
+    let h : 65536 < length l = omega arith in
+    let e = totals-long book l h in
+    let room = c.requires in
+    let p = c.put_front.ensures in
+    let fits = fits-true page 0 too_long (omega arith) in
+    let k = p.0 ∙ cond-true (fits_at page 0 too_long) (length too_long) 0 fits in
+    ((p.1 ∙ ap (splice page 0) (sym e), k ∙ ap length (sym e)), omega arith, book-long book l h)
 
 pub print_totals-requires : goal.print_totals-requires
 print_totals-requires c =
