@@ -79,8 +79,8 @@ fn put_byte(out: &mut impl Write, b: u8) -> io::Result<()> {
     }
 }
 
-// Bytes in the code: `-` for none, and a lone `-` as a hex byte. Byte by byte to what writes, and by no `Display`: nearly all of a line is this, and a byte
-// that goes through a formatter takes ten times as long.
+// Bytes in the code: `-` for none, and a lone `-` as a hex byte. Byte by byte to what writes, and by no `Display`: nearly all of a line is this, and through
+// a formatter a whole script took a tenth longer.
 pub(crate) fn put_coded(out: &mut impl Write, bytes: &[u8]) -> io::Result<()> {
     match bytes {
         b"" => out.write_all(b"-"),
