@@ -79,8 +79,8 @@ fn put_byte(out: &mut impl Write, b: u8) -> io::Result<()> {
     }
 }
 
-// Bytes in the code: `-` for none, and a lone `-` as a hex byte. Byte by byte to what writes, and by no `Display`: nearly all of a line is this, and through
-// a formatter a whole script took a tenth longer.
+// Bytes in the code: `-` for none, and a lone `-` as a hex byte. Byte by byte to what writes, and by no `Display`: with this, and with a line's numbers in
+// a `Text`, the gate's script takes 4 in 100 fewer instructions.
 pub(crate) fn put_coded(out: &mut impl Write, bytes: &[u8]) -> io::Result<()> {
     match bytes {
         b"" => out.write_all(b"-"),

@@ -14,8 +14,8 @@ use book::{Admitted, BOOK, Load};
 use note::Read;
 
 // What the notes keep but for the slots and the order rows, which are in the lent book: last is the last number given, as many slots there
-// are, and day the contracts waiting. The load is here as three numbers: a struct in a struct would be copied with every note. e and o stand last, and so
-// the loop in `replay` has them in registers of their own while S notes are read, as nearly all notes of a quiet line are.
+// are, and day the contracts waiting. The load is here as three numbers: a struct in a struct would be copied with every note. e and o stand last by what
+// was measured alone: see `replay`.
 #[derive(Clone, Copy, Default)]
 pub struct Counts {
     pub last: u32,
@@ -172,8 +172,8 @@ fn take_note(mem: &mut [u8; BOOK], m: Counts, says: Read, s: &[u8]) -> Step
 }
 
 // The notes one by one, their slots and rows into mem; or the place of the first byte of an unlawful note. Stays a `while`: it goes on by the length of
-// each note, and the place where it stands is the answer. It is a function of its own to whatever calls a restart: put in place its loop was compiled anew
-// for each caller, and took a third longer in some.
+// each note, and the place where it stands is the answer. It is a function of its own to whatever calls a restart: put in place, and with e and o first
+// in Counts, a restart of S notes took a seventh longer in the archive for C.
 #[inline(never)]
 fn replay(mem: &mut [u8; BOOK], notes: &[u8]) -> Result<Restarted, usize>
     requires { length mem.old ≡ book_width }
