@@ -1,6 +1,6 @@
 -- Searches over the slots of a region, and what they hand back.
 --     find-inside, last-inside     past the end of the region there is nothing to find
---     order_told     a fill of an order, test by test.        order_is     of the order of a slot
+--     order_told     a fill of an order, test by test.        order_is, order-by     of the order of a slot
 --     known-none, known_some     what a search hands back
 use mathlib.Core.Path.{◌≡◌, refl, sym, ap, ◌∙◌}
 use mathlib.Core.List.{List, [], ◌∷◌}
@@ -83,3 +83,8 @@ module _ (id : List ℕ) (s : Slot) where
 pub order_is : (f s : Slot) → is_order (order_of f) s ≡ same_order f s
 unfolding same_order
 order_is f s = refl
+
+-- so of that of f, test by test
+module _ (f s : Slot) where
+  pub order-by : {a b : Bool} → is_fill s ≡ a → same (order_of f) (order_of s) ≡ b → a && b ≡ same_order f s
+  order-by ea eb = order_told (order_of f) s ea eb ∙ order_is f s
